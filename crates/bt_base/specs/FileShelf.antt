@@ -1,0 +1,7 @@
+-- What the shelf over the system's files shows: one count of faults, which stands for every name.
+use Rattle.std.specs.Prelude.{ℕ}
+use Rattle.bt_base.specs.declared.file_shelf.FileShelf.{FileShelf}
+
+-- how many reads have failed
+abbrev pub faults_of : {R File Dir : Type 0} → FileShelf R File Dir → ℕ
+faults_of shelf = shelf.faults

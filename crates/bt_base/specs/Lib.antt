@@ -1,0 +1,9 @@
+pub mod File
+pub mod FileShelf
+pub mod Graph
+pub mod MemoryShelf
+pub mod MemorySink
+pub mod OutSink
+pub mod Shelf
+pub mod Sink
+pub mod Text
