@@ -1,0 +1,78 @@
+//! The operations against those of the language's own signed numbers.
+use crate::*;
+
+/// Words at the edges of both readings.
+const EDGES: [u32; 8] = [
+    0,
+    1,
+    2,
+    0x7fff_fffe,
+    0x7fff_ffff,
+    0x8000_0000,
+    0x8000_0001,
+    0xffff_ffff,
+];
+
+/// Whether the sum and its overflows are those of the language's numbers.
+fn adds(x: u32, y: u32) -> bool {
+    let flags = sum_flags(x, y, false);
+    sum(x, y, false) == x.wrapping_add(y)
+        && flags.c == x.checked_add(y).is_none()
+        && flags.v == x.cast_signed().checked_add(y.cast_signed()).is_none()
+}
+
+/// Whether the difference and its overflow are.
+fn subtracts(x: u32, y: u32) -> bool {
+    let flags = difference_flags(x, y, false);
+    difference(x, y, false) == x.wrapping_sub(y)
+        && flags.v == x.cast_signed().checked_sub(y.cast_signed()).is_none()
+}
+
+/// Whether the conditions after a comparison are the orders with sign and without.
+fn compares(x: u32, y: u32) -> bool {
+    let flags = difference_flags(x, y, false);
+    let (a, b) = (x.cast_signed(), y.cast_signed());
+    holds(1, &flags) == (x == y)
+        && holds(2, &flags) == (a <= b)
+        && holds(3, &flags) == (a < b)
+        && holds(4, &flags) == (x <= y)
+        && holds(5, &flags) == (x < y)
+        && holds(9, &flags) == (x != y)
+        && holds(10, &flags) == (a > b)
+        && holds(11, &flags) == (a >= b)
+        && holds(12, &flags) == (x > y)
+        && holds(13, &flags) == (x >= y)
+}
+
+#[test]
+fn agrees_with_signed_numbers(rt: HostRuntime) {
+    for x in EDGES {
+        for y in EDGES {
+            assert!(rt; adds(x, y), "{x:x} + {y:x}");
+            assert!(rt; subtracts(x, y), "{x:x} - {y:x}");
+            assert!(rt; compares(x, y), "{x:x} and {y:x}");
+        }
+    }
+}
+
+#[test]
+fn carries_borrows_and_shifts(rt: HostRuntime) {
+    let up = sum_flags(0xffff_ffff, 0, true);
+    assert!(rt; up.z && up.c && !up.n && !up.v);
+    let down = difference_flags(0x8000_0000, 0, true);
+    assert!(rt; down.v && !down.c && !down.n && !down.z);
+    let logic = logic_flags(0x8000_0000);
+    assert!(rt; logic.n && !logic.z && !logic.v && !logic.c);
+    // the word, the count, and the word shifted left, right, and right with its sign
+    for (x, count, left, right, signed) in [
+        (0x8000_0001, 1, 2, 0x4000_0000, 0xc000_0000),
+        (0x8000_0001, 33, 2, 0x4000_0000, 0xc000_0000),
+        (0x7000_0000, 31, 0, 0, 0),
+        (0xf000_0000, 31, 0, 1, 0xffff_ffff),
+        (0x1234_5678, 0, 0x1234_5678, 0x1234_5678, 0x1234_5678),
+    ] {
+        assert_eq!(rt; shift_left(x, count), left);
+        assert_eq!(rt; shift_right(x, count), right);
+        assert_eq!(rt; shift_right_signed(x, count), signed, "{x:x} by {count}");
+    }
+}
