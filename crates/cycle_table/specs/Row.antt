@@ -1,0 +1,50 @@
+-- The lines of a table that have words, and what each says.
+use Rattle.std.specs.Prelude.{ℕ, ◌+◌, Bool, false, ◌&&◌, List, [], ◌∷◌, Option, Some, None, Result, Ok, Err, codes}
+use Rattle.std.specs.Str.{bytes_eq}
+use Rattle.cycle_table.specs.Class.{class_named}
+use Rattle.cycle_table.specs.LineText.{uncommented, words_of}
+use Rattle.cycle_table.specs.Numeral.{number_of}
+use Rattle.cycle_table.specs.declared.refusal.Why.{Why}
+use Rattle.cycle_table.specs.declared.refusal.Why.TheVariants.{Class, Number, Extra}
+use Rattle.sparc_decode.specs.declared.cost_class.CostClass.{CostClass}
+
+-- a line that has words: its number, from 1, and its words
+pub record Row : Type 0 where
+  pub number : ℕ
+  pub words : List (List ℕ)
+
+-- a line in front of others; without words it is left out
+abbrev pub onto : ℕ → List (List ℕ) → List Row → List Row
+onto number [] rows = rows
+onto number (word ∷ more) rows = record { number = number; words = word ∷ more } ∷ rows
+
+-- the lines that have words, where the first line has this number
+abbrev pub rows_from : ℕ → List (List ℕ) → List Row
+rows_from number [] = []
+rows_from number (line ∷ rest) = onto number (words_of (uncommented line)) (rows_from (number + 1) rest)
+
+-- the first line of a table: `cycles 1`
+abbrev pub is_header : List (List ℕ) → Bool
+is_header (name ∷ version ∷ []) = bytes_eq name (codes "cycles") && bytes_eq version (codes "1")
+is_header _ = false
+
+-- a class and what it costs, where nothing follows
+abbrev pub ends_with : CostClass → Option ℕ → List (List ℕ) → Result (CostClass × ℕ) Why
+ends_with class None more = Err Number
+ends_with class (Some cost) [] = Ok (class, cost)
+ends_with class (Some cost) (word ∷ more) = Err Extra
+
+-- what follows the name of a class
+abbrev pub costs_as : CostClass → List (List ℕ) → Result (CostClass × ℕ) Why
+costs_as class [] = Err Number
+costs_as class (word ∷ more) = ends_with class (number_of word) more
+
+-- a name of a class and what follows it
+abbrev pub names_as : Option CostClass → List (List ℕ) → Result (CostClass × ℕ) Why
+names_as None more = Err Class
+names_as (Some class) more = costs_as class more
+
+-- what the words of a line say: a class and its cost, or what is wrong with them
+abbrev pub says : List (List ℕ) → Result (CostClass × ℕ) Why
+says [] = Err Class
+says (name ∷ more) = names_as (class_named name) more

@@ -1,0 +1,12 @@
+//! Facts about tables of cycles: each is the contract of a function that does nothing.
+ghost use Rattle.cycle_table.specs.Law.{FaultsAreFirst, TablesAreWhole};
+
+/// What is wrong with the lines of a table is what is wrong with the first bad one.
+pub fn faults_are_first()
+    ensures { FaultsAreFirst }
+{}
+
+/// Lines that are a table give each class its cost, which isn't 0, on exactly one line.
+pub fn tables_are_whole()
+    ensures { TablesAreWhole }
+{}
