@@ -1,0 +1,10 @@
+pub mod ExtentLemmas
+pub mod ImageLemmas
+pub mod LeastLemmas
+pub mod LimitLemmas
+pub mod LoadedLemmas
+pub mod LoadingLemmas
+pub mod NameLemmas
+pub mod NextLemmas
+pub mod StringLemmas
+pub mod SymbolLemmas

@@ -1,0 +1,29 @@
+use Rattle.std.proofs.Common.{length, subst}
+use Rattle.bt_image.specs.NextCode.{IsCodeTable}
+use Rattle.bt_image.proofs.ImageLemmas.{refused_checked, refused_overlap, refused_symbols, refused_limits, refused_none, is_image}
+use Rattle.bt_image.proofs.image.Image.read.Goals as goal
+
+pub returns-in-Err-clause-refused : goal.returns-in-Err-clause-refused
+returns-in-Err-clause-refused c = refused_checked c.args.bytes.now c.in-Err.refusal c.in-Err.ensures.check
+
+pub returns-in-Err-load-clause-refused : goal.returns-in-Err-load-clause-refused
+returns-in-Err-load-clause-refused c = refused_overlap c.args.bytes.now c.in-Err-load.refusal c.in-Ok.ensures.check c.in-Err-load.ensures.step
+
+pub returns-in-Err-check_symbols-clause-refused : goal.returns-in-Err-check_symbols-clause-refused
+returns-in-Err-check_symbols-clause-refused c =
+    refused_symbols c.args.bytes.now c.in-Err-check_symbols.refusal c.in-Ok.ensures.check c.in-Ok-load.ensures.step c.in-Err-check_symbols.ensures
+
+pub returns-in-Err-limited_names-clause-refused : goal.returns-in-Err-limited_names-clause-refused
+returns-in-Err-limited_names-clause-refused c =
+    refused_limits c.args.bytes.now c.in-Err-limited_names.refusal c.in-Ok.ensures.check c.in-Ok-load.ensures.step c.in-Ok-check_symbols.ensures
+    c.in-Err-limited_names.ensures.step
+
+pub invariant_of-result : goal.invariant_of-result
+invariant_of-result c =
+    is_image c.args.bytes.now c.in_ok-bytes.bytes.items c.in-Ok.number c.in-Ok-load.loaded.items c.in_ok-code.code.items c.in_ok-addresses.addresses.items c.in-Ok-limited_names.names
+    c.in-Ok.ensures.checked c.in-Ok-check_symbols.ensures c.in-Ok-load.ensures.table (subst (λ xs. IsCodeTable xs (length xs) c.in_ok-code.code.items) c.deref-3.ensures.value c.in_ok-code.ensures) c.in_ok-addresses.ensures.value c.in_ok-addresses.ensures.rise c.in-Ok-limited_names.ensures.names
+    c.in_ok-bytes.ensures.items
+
+pub returns-clause-refused : goal.returns-clause-refused
+returns-clause-refused c =
+    refused_none c.args.bytes.now c.in-Ok.ensures.check c.in-Ok-load.ensures.step c.in-Ok-check_symbols.ensures c.in-Ok-limited_names.ensures.step

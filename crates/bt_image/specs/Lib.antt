@@ -1,0 +1,11 @@
+pub mod Checked
+pub mod Extent
+pub mod File
+pub mod Image
+pub mod Least
+pub mod Loaded
+pub mod Names
+pub mod NextCode
+pub mod Refusal
+pub mod Section
+pub mod Symbol

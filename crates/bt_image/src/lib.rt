@@ -1,0 +1,26 @@
+//! The reader of executables for SPARC in 32 bits (System V ABI, "Object Files", and its SPARC processor
+//! supplement): the sections that are in memory, what stands at each address, and the functions.
+#![tactic(auto)]
+
+mod entry;
+mod extent;
+mod fields;
+mod functions;
+mod headers;
+mod image;
+mod loaded;
+mod loading;
+mod names;
+mod next_code;
+mod refusal;
+mod section;
+mod sections;
+mod strings;
+mod symbol;
+mod symbols;
+
+pub use image::Image;
+pub use refusal::{Counted, ImageRefusal};
+
+#[cfg(test)]
+mod tests;

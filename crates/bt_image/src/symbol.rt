@@ -1,0 +1,47 @@
+//! The entries of the symbol table (System V ABI, "Object Files", "Symbol Table").
+ghost use Rattle.std.specs.Prelude.{◌≡◌, ◌+◌, ◌≤◌, length};
+ghost use Rattle.bt_image.specs.Symbol.{symbol_from, is_typed, may_be_function};
+
+use crate::fields::{byte_field, half_field, word_field};
+
+/// An entry of the symbol table, as far as it is looked at.
+#[derive(Clone, Copy, Debug, PartialEq, Eq)]
+pub struct Symbol {
+    /// The place of its name in the strings.
+    pub name: u32,
+    /// Its value: an address, where it is a function.
+    pub value: u32,
+    /// Its type in the low four bits, its binding in the high four.
+    pub info: u8,
+    /// The number of the section that it is of, 0 where it is of none.
+    pub section: u16,
+}
+
+impl Symbol {
+    /// The symbol that begins at a place of the file.
+    pub fn read(file: &[u8], at: usize) -> Symbol
+        requires { at + 16 ≤ length file.now }
+        ensures { result ≡ symbol_from file.now at }
+    {
+        Symbol {
+            name: word_field(file, at),
+            value: word_field(file, at + 4),
+            info: byte_field(file, at + 12),
+            section: half_field(file, at + 14),
+        }
+    }
+
+    /// Whether it is of type FUNC.
+    pub fn is_typed(&self) -> bool
+        ensures { result ≡ is_typed self.now }
+    {
+        self.info % 16 == 2
+    }
+
+    /// Whether it is of type FUNC, or of no type and global.
+    pub fn may_be_function(&self) -> bool
+        ensures { result ≡ may_be_function self.now }
+    {
+        self.is_typed() || self.info == 0x10
+    }
+}
