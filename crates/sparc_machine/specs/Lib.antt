@@ -1,0 +1,9 @@
+pub mod Effect
+pub mod Frame
+pub mod Kept
+pub mod Machine
+pub mod Memory
+pub mod Register
+pub mod Run
+pub mod Step
+pub mod Straight

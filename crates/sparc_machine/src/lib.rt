@@ -1,0 +1,24 @@
+//! The machine: registers in windows, program counters, cycles, and its step (SPARC Architecture Manual
+//! Version 7, "Registers" and "Instructions").
+#![tactic(auto)]
+
+mod effects;
+mod executing;
+mod free;
+mod laws;
+mod machine;
+mod memory;
+mod stepping;
+mod straight;
+#[cfg(test)]
+mod tests;
+
+pub use effects::step;
+pub use free::Free;
+pub use laws::{
+    each_step_keeps, globals_are_shared, neighbours_overlap, registers_are_apart,
+    straight_runs_are_bounded, windows_come_back,
+};
+pub use machine::{Machine, physical};
+pub use stepping::{ORIGIN, Trap, step_thin};
+pub use straight::is_straight;

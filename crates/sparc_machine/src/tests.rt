@@ -1,0 +1,166 @@
+//! Whole runs of small images, and a case for each trap.
+ghost use Rattle.std.specs.Prelude.{◌≡◌};
+
+use crate::{Free, Machine, Trap, physical, step};
+use bt_image::Image;
+use cycle_table::Cycles;
+use std::alloc::{AllocError, Global};
+use std::test::Fail;
+
+/// A table in which every class costs one cycle.
+const ONES: &[u8] =
+    b"cycles 1\nalu 1\nshift 1\nsethi 1\ntagged 1\nmulscc 1\nsave 1\nrestore 1\nbranch 1\nfloatbranch 1\ncall 1\njump 1\nload 1\nloaddouble 1\nstore 1\nstoredouble 1\natomic 1\nready 1\nwritey 1\nflush 1\nfloatop 1\nfloatcmp 1\nfloatload 1\nfloatloaddouble 1\nfloatstore 1\nfloatstoredouble 1\ntrap 1\nannulled 1\n";
+
+/// The bytes of words, big-endian.
+fn put(bytes: &mut Vec<u8>, words: &[u32]) -> Result<(), AllocError> {
+    for word in words {
+        bytes.extend_from_slice(&word.to_be_bytes())?;
+    }
+    Ok(())
+}
+
+/// An ELF file with one section of code at 02000000.
+#[rattlefmt::skip]
+fn file(alloc: Global, code: &[u32]) -> Result<Vec<u8>, AllocError> {
+    let size = (code.len() % 1000 * 4) as u32;
+    let mut bytes = Vec::new(alloc);
+    put(&mut bytes, &[0x7f45_4c46, 0x0102_0100, 0, 0, 0x0002_0002, 1, 0x0200_0000, 0])?;
+    put(&mut bytes, &[52 + size, 0, 0x0034_0000, 0x0000_0028, 0x0002_0000])?;
+    put(&mut bytes, code)?;
+    put(&mut bytes, &[0, 0, 0, 0, 0, 0, 0, 0, 0, 0])?;
+    put(&mut bytes, &[0, 1, 6, 0x0200_0000, 52, size, 0, 0, 4, 0])?;
+    Ok(bytes)
+}
+
+/// A machine at the first word in window 3, called from 01000000.
+fn entry() -> Machine
+    ensures { (result.cwp ≡ 3) × (result.cycles ≡ 0) }
+{
+    let mut regs = [0; 136];
+    regs[physical(3, 15)] = 0x0100_0000;
+    regs[physical(3, 8)] = 0x4000_0000;
+    Machine {
+        regs,
+        n: false,
+        z: false,
+        v: false,
+        c: false,
+        pc: 0x0200_0000,
+        npc: 0x0200_0004,
+        cwp: 3,
+        wim: 64,
+        cycles: 0,
+    }
+}
+
+/// What every read finds.
+const FOUND: Free = Free {
+    first: 0x8005,
+    second: 7,
+    flags: 0,
+    taken: false,
+};
+
+#[test]
+fn runs_to_the_end(rt: HostRuntime) -> Result<(), Fail> {
+    let alloc = rt.alloc();
+    let cycles = Cycles::read(ONES).ok().ok_or("no table")?;
+    // a sum over ten words, and a call with SAVE and RESTORE: the code, its steps, and what is in %o0 then
+    for (code, steps, found) in [
+        (
+            [
+                0x9210_2028,
+                0x9410_2000,
+                0xc202_0009,
+                0x92a2_6004,
+                0x12bf_fffe,
+                0x9402_8001,
+                0x81c3_e008,
+                0x9010_000a,
+            ],
+            44,
+            10 * 0x8005,
+        ),
+        (
+            [
+                0x9de3_bfa0,
+                0x4000_0004,
+                0x0100_0000,
+                0x81c7_e008,
+                0x91e8_2007,
+                0x9de3_bfa0,
+                0x81c7_e008,
+                0x81e8_0000,
+            ],
+            8,
+            7,
+        ),
+    ] {
+        let bytes = file(alloc, &code)?;
+        let image = Image::read(alloc, &bytes).ok().ok_or("no image")?;
+        let mut m = entry();
+        for turn in 0..steps {
+            assert!(rt; m.cwp < 8 && m.cycles < 100);
+            assert_eq!(rt; step(&mut m, &image, &cycles, FOUND), Ok(()), "step {turn}");
+        }
+        assert_eq!(rt; m.pc, 0x0100_0008);
+        assert_eq!(rt; m.cycles, steps);
+        assert_eq!(rt; m.cwp, 3);
+        assert_eq!(rt; m.regs[physical(3, 8)], found);
+    }
+    Ok(())
+}
+
+#[test]
+fn annuls_extends_and_traps(rt: HostRuntime) -> Result<(), Fail> {
+    let alloc = rt.alloc();
+    let cycles = Cycles::read(ONES).ok().ok_or("no table")?;
+    // the word at the program counter, and what a step over it comes to
+    for (word, want) in [
+        (0x0000_0000, Err(Trap::Unmodelled)),
+        (0x91d0_2003, Err(Trap::Unmodelled)),
+        (0xc202_2001, Err(Trap::Misaligned)),
+        (0x81c2_2002, Err(Trap::Misaligned)),
+        (0xc220_0000, Ok(0x0200_0004)),
+        (0xc223_0000, Err(Trap::ReadOnlyStore)),
+        (0xc06b_0000, Err(Trap::ReadOnlyStore)),
+        (0x9de3_bfa0, Ok(0x0200_0004)),
+        (0x81e8_0000, Ok(0x0200_0004)),
+        (0x30bf_ffff, Ok(0x01ff_fffc)),
+        (0x2280_0004, Ok(0x0200_0008)),
+        (0x1280_0004, Ok(0x0200_0004)),
+    ] {
+        let bytes = file(alloc, &[word])?;
+        let image = Image::read(alloc, &bytes).ok().ok_or("no image")?;
+        let mut m = entry();
+        m.regs[physical(3, 12)] = 0x0200_0000;
+        let before = m;
+        let got = step(&mut m, &image, &cycles, FOUND);
+        match want {
+            Ok(pc) => {
+                assert_eq!(rt; got, Ok(()), "at {word:08x}");
+                assert_eq!(rt; m.pc, pc, "at {word:08x}");
+            }
+            Err(trap) => {
+                assert_eq!(rt; got, Err(trap), "at {word:08x}");
+                assert!(rt; m == before);
+            }
+        }
+    }
+    // the windows beside the current one are invalid, and then there is no code
+    let bytes = file(alloc, &[0x9de3_bfa0, 0x81e8_0000])?;
+    let image = Image::read(alloc, &bytes).ok().ok_or("no image")?;
+    for (pc, wim, trap) in [
+        (0x0200_0000, 4, Trap::Overflow),
+        (0x0200_0004, 16, Trap::Underflow),
+        (0x0200_0008, 64, Trap::Fetch),
+        (0x0200_0002, 64, Trap::Fetch),
+    ] {
+        let mut m = entry();
+        m.pc = pc;
+        m.npc = pc + 4;
+        m.wim = wim;
+        assert_eq!(rt; step(&mut m, &image, &cycles, FOUND), Err(trap));
+    }
+    Ok(())
+}
