@@ -1,0 +1,9 @@
+pub mod SetLemmas
+pub mod ValueLemmas
+pub mod ThresholdLemmas
+pub mod MergeLemmas
+pub mod EndsLemmas
+pub mod JoinLemmas
+pub mod HeightLemmas
+pub mod OrderLemmas
+pub mod CompareLemmas

@@ -1,0 +1,10 @@
+pub mod Ends
+pub mod Height
+pub mod Held
+pub mod Laws
+pub mod Merge
+pub mod Order
+pub mod Rounding
+pub mod Set
+pub mod Thresholds
+pub mod Value
