@@ -1,0 +1,3 @@
+pub mod OperationLemmas
+pub mod PointwiseLemmas
+pub mod RowLemmas

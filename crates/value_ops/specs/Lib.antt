@@ -1,0 +1,3 @@
+pub mod Laws
+pub mod Operation
+pub mod Row

@@ -1,0 +1,156 @@
+ghost use Rattle.std.specs.Prelude.{◌≡◌, ◌∷◌, [], IfOk};
+ghost use Rattle.value_lattice.specs.Ends.{AreEnds};
+ghost use Rattle.value_lattice.specs.Value.{IsValue, IsOver};
+ghost use Rattle.value_ops.specs.Operation.{IsApplied, IsStep, IsTwice, IsSpanned, IsComputed, copies_left, copies_right, one_in, one_of, is_zero};
+ghost use Rattle.value_ops.specs.Row.{IsFilled};
+
+use crate::Op;
+use crate::pointwise::pointwise;
+use crate::rows::{Span, row};
+use bt_base::Want;
+use std::alloc::Global;
+use value_lattice::{Thresholds, Value, cover, span_of_places};
+
+/// The one word of rising words, if there is one.
+fn one_in(words: &[u32]) -> Option<u32>
+    ensures { result ≡ one_in words.now }
+{
+    match words {
+        [only] => Some(*only),
+        _ => None,
+    }
+}
+
+/// The one word of a value, if it is a set of one.
+fn one_of(v: &Value) -> Option<u32>
+    ensures { result ≡ one_of v.now }
+{
+    match v {
+        Value::Words(words) => one_in(words.members()),
+        Value::Range { .. } => None,
+        Value::Ret => None,
+    }
+}
+
+/// Whether a value is exactly the word 0.
+fn is_zero(v: &Value) -> bool
+    ensures { result ≡ is_zero v.now }
+{
+    match one_of(v) {
+        Some(word) => word == 0,
+        None => false,
+    }
+}
+
+/// The ends of a value, by their places.
+fn span_of(v: &Value) -> Span
+    requires { IsValue v.now }
+    ensures ends { AreEnds v.now result.low result.high }
+    ensures filled { IsFilled result }
+{
+    let (low, high) = v.ends();
+    Span { low, high }
+}
+
+/// The least value that has all between the ends that the sources' ends give.
+fn spanned(alloc: Global, op: Op, a: &Value, b: &Value, t: &Thresholds) -> Result<Value, Want>
+    requires left { IsValue a.now }
+    requires right { IsValue b.now }
+    ensures { IfOk result (IsSpanned t.now op a.now b.now) }
+{
+    let ends = row(op, one_of(b), span_of(a), span_of(b));
+    span_of_places(alloc, ends.low, ends.high, t)
+}
+
+/// The result of an operation whose sides aren't copied.
+fn computed(alloc: Global, op: Op, a: &Value, b: &Value, t: &Thresholds) -> Result<Value, Want>
+    requires left { IsValue a.now }
+    requires right { IsValue b.now }
+    ensures { IfOk result (IsComputed t.now op a.now b.now) }
+{
+    match a {
+        Value::Words(xs) => match b {
+            Value::Words(ys) => pointwise(alloc, op, xs, ys, t),
+            Value::Range { .. } => spanned(alloc, op, a, b, t),
+            Value::Ret => spanned(alloc, op, a, b, t),
+        },
+        Value::Range { .. } => spanned(alloc, op, a, b, t),
+        Value::Ret => spanned(alloc, op, a, b, t),
+    }
+}
+
+/// Whether an operation copies its left side where the right side is 0.
+fn copies_left(op: Op) -> bool
+    ensures { result ≡ copies_left op }
+{
+    match op {
+        Op::Add => true,
+        Op::Or => true,
+        Op::Sub => true,
+        _ => false,
+    }
+}
+
+/// Whether an operation copies its right side where the left side is 0.
+fn copies_right(op: Op) -> bool
+    ensures { result ≡ copies_right op }
+{
+    match op {
+        Op::Add => true,
+        Op::Or => true,
+        _ => false,
+    }
+}
+
+/// An operation that reads no carry.
+fn step(alloc: Global, op: Op, a: &Value, b: &Value, t: &Thresholds) -> Result<Value, Want>
+    requires left { IsOver t.now a.now }
+    requires right { IsOver t.now b.now }
+    ensures step { IfOk result (IsStep t.now op a.now b.now) }
+    ensures over { IfOk result (IsOver t.now) }
+{
+    if copies_left(op) && is_zero(b) {
+        return a.copy(alloc);
+    }
+    if copies_right(op) && is_zero(a) {
+        return b.copy(alloc);
+    }
+    computed(alloc, op, a, b, t)
+}
+
+/// The set of 0 and 1, which the carry is one of.
+fn carry(alloc: Global, t: &Thresholds) -> Result<Value, Want>
+    ensures { IfOk result (λ v. v ≡ Value.Words (0 ∷ 1 ∷ [])) }
+{
+    cover(alloc, &[0, 1], t)
+}
+
+/// An operation, and then the same with 0 or 1 on its right side.
+fn twice(alloc: Global, op: Op, a: &Value, b: &Value, t: &Thresholds) -> Result<Value, Want>
+    requires left { IsOver t.now a.now }
+    requires right { IsOver t.now b.now }
+    ensures twice { IfOk result (IsTwice t.now op a.now b.now) }
+    ensures over { IfOk result (IsOver t.now) }
+{
+    let between = step(alloc, op, a, b, t)?;
+    let carry = carry(alloc, t)?;
+    step(alloc, op, &between, &carry, t)
+}
+
+/// The result of an operation on what its sources may be.
+///
+/// A sum or an or with 0 is the other side, and a difference less 0 its left side. Two sets of words give the
+/// least value that has the result of each pair. Any other values give the least that has all between ends
+/// which the ends of the sources give. The operations with a carry are two steps, the second with 0 or 1.
+pub fn apply(alloc: Global, op: Op, a: &Value, b: &Value, t: &Thresholds) -> Result<Value, Want>
+    requires left { IsOver t.now a.now }
+    requires right { IsOver t.now b.now }
+    ensures applied { IfOk result (IsApplied t.now op a.now b.now) }
+    ensures over { IfOk result (IsOver t.now) }
+{
+    match op {
+        Op::Addx => twice(alloc, Op::Add, a, b, t),
+        Op::Subx => twice(alloc, Op::Sub, a, b, t),
+        _ => step(alloc, op, a, b, t),
+    }
+}

@@ -1,0 +1,16 @@
+//! The operations on values: what an instruction's result may be, from what its sources may be.
+#![tactic(auto)]
+
+mod applying;
+mod computing;
+mod laws;
+mod op;
+mod pointwise;
+mod rows;
+
+pub use applying::apply;
+pub use laws::{operations_are_monotone, results_are_covered};
+pub use op::Op;
+
+#[cfg(test)]
+mod tests;
