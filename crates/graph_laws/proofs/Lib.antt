@@ -1,0 +1,13 @@
+pub mod Attained
+pub mod Counters
+pub mod Costs
+pub mod Expanded
+pub mod Inner
+pub mod Nests
+pub mod Rows
+pub mod Stretches
+pub mod Sums
+pub mod Turns
+pub mod Walks
+pub mod WorkedCosts
+pub mod WorkedNests

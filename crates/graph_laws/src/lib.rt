@@ -1,0 +1,33 @@
+//! Laws over graphs: walks that keep head bounds, labels that show what they cost, counters and nests.
+//!
+//! Graphs and bodies are tests of edges and nodes. Each law is the contract of a function that does nothing, so
+//! that the crates above cite it; `is_walk` decides whether a list of nodes is a walk of a graph.
+#![tactic(auto)]
+
+mod counter_laws;
+mod label_laws;
+mod nest_laws;
+mod walking;
+mod worked_graphs;
+
+pub use counter_laws::{
+    chosen_sums_are_attained, counter_bounds_passes, falling_counter_bounds_passes,
+    falling_sums_bound_turns, forward_sums_fall, forward_sums_rise, rising_sums_bound_turns,
+};
+pub use label_laws::{
+    chosen_labels_are_attained, chosen_labels_are_greatest, collapsed_walks_expand,
+    labels_bound_walks, loops_inside_are_loops, own_labels_are_greatest, own_labels_bound_walks,
+};
+pub use nest_laws::{
+    nest_is_one, nests_are_loops, nests_unwind, parts_inside_are_parts, reached_are_entered,
+    two_entries_have_no_nest,
+};
+pub use walking::{has_edge, is_walk};
+pub use worked_graphs::{
+    collapsed_walk_costs_fourteen, counter_meets_its_bound, inner_loop_costs_six,
+    loop_of_two_costs_six, nested_loops_cost_fourteen, nested_loops_have_a_nest,
+    two_ways_have_no_nest,
+};
+
+#[cfg(test)]
+mod tests;
