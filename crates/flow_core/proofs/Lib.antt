@@ -1,0 +1,11 @@
+pub mod EntryLemmas
+pub mod EventLemmas
+pub mod JoinLemmas
+pub mod QueueLemmas
+pub mod ReadersLemmas
+pub mod StateLemmas
+pub mod StagingLemmas
+pub mod WritingLemmas
+pub mod AbsorbLemmas
+pub mod CoreLemmas
+pub mod DriveLemmas

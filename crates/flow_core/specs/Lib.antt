@@ -1,0 +1,10 @@
+pub mod Absorb
+pub mod Claim
+pub mod Core
+pub mod Event
+pub mod Queue
+pub mod Readers
+pub mod Refusal
+pub mod Ring
+pub mod Staged
+pub mod Writing

@@ -1,0 +1,9 @@
+//! A system of keys and facts: what it starts from, what each key gives over the facts so far, and the
+//! laws under which its least closed state is reached in any order of work. Facts are a finite map.
+#![tactic(auto)]
+
+mod facts;
+mod system;
+
+pub use facts::Facts;
+pub use system::{Name, System};
