@@ -1,0 +1,47 @@
+//! `boundt`: upper bounds on the cycles of subprograms in SPARC V7 executables.
+#![tactic(auto)]
+
+use bt_base::{FileShelf, OutSink};
+use bt_command::{Status, run_alone};
+use std::env;
+use std::io::{self, ErrorKind};
+use std::process::ExitCode;
+use std::rt::Runtime;
+
+/// The words after the program's name. Words that aren't UTF-8 are a faulty command line.
+fn words<R: Runtime + AllocGlobal>(rt: &R) -> Result<Vec<String>, Status> {
+    let mut words = Vec::new(rt.alloc());
+    let args = match env::args(rt) {
+        Ok(args) => args,
+        Err(error) if error.kind() == ErrorKind::InvalidData => return Err(Status::Usage),
+        Err(_) => return Err(Status::Want),
+    };
+    for word in args.skip(1) {
+        if words.push(word).is_err() {
+            return Err(Status::Want);
+        }
+    }
+    Ok(words)
+}
+
+/// Runs the command of the words on the files of the system and the standard output.
+fn run<R: Runtime + AllocGlobal>(rt: &R) -> io::Result<Status> {
+    let words = match words(rt) {
+        Ok(words) => words,
+        Err(status) => return Ok(status),
+    };
+    let mut shelf = FileShelf::new(rt.clone()?);
+    let mut out = OutSink::new(rt.clone()?);
+    Ok(run_alone(rt.alloc(), &words, &mut shelf, &mut out))
+}
+
+fn main(rt: HostRuntime) -> io::Result<ExitCode> {
+    let status = run(&rt)?;
+    if status.code() >= 2 {
+        match status.message(rt.alloc()) {
+            Ok(message) => eprintln!(rt; "{message}")?,
+            Err(_) => eprintln!(rt; "boundt: 8 Want")?,
+        }
+    }
+    Ok(ExitCode::from(status.code()))
+}

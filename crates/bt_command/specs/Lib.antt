@@ -1,0 +1,4 @@
+pub mod Call
+pub mod Report
+pub mod Status
+pub mod ThinImage

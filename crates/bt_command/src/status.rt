@@ -1,0 +1,71 @@
+ghost use Rattle.std.specs.Prelude.{◌≡◌, IfOk, string_bytes};
+ghost use Rattle.bt_command.specs.Status.{code_of, message_of};
+
+use bt_base::Want;
+use std::alloc::Global;
+
+/// What a call of the program came to.
+#[derive(Clone, Copy, Debug, PartialEq, Eq)]
+pub enum Status {
+    /// The whole report was written, and each root has a bound.
+    Bounded,
+    /// The words are no command.
+    Usage,
+    /// A read of this file failed; files are numbered from 1, in the order of the words.
+    ReadFault { file: u32 },
+    /// A write failed after so many bytes of the text.
+    WriteFault { written: u64 },
+    /// Memory was wanting.
+    Want,
+    /// A limit is passed.
+    Limit(LimitFault),
+    /// This file is of a form that isn't built yet.
+    NotYet { file: u32 },
+}
+
+/// Which limit is passed.
+#[derive(Clone, Copy, Debug, PartialEq, Eq)]
+pub enum LimitFault {
+    /// This file has more than `limit` bytes.
+    TooLong { file: u32, limit: u64 },
+}
+
+impl Status {
+    /// The exit status of the program.
+    pub fn code(&self) -> u8
+        ensures { result ≡ code_of self.now }
+    {
+        match self {
+            Status::Bounded => 0,
+            Status::Usage => 2,
+            Status::ReadFault { .. } => 6,
+            Status::WriteFault { .. } => 7,
+            Status::Want => 8,
+            Status::Limit(_) => 9,
+            Status::NotYet { .. } => 10,
+        }
+    }
+
+    /// The message: `boundt:`, the exit status, the name, then each field's name and its value in decimal.
+    pub fn message(&self, alloc: Global) -> Result<String, Want>
+        ensures { IfOk result (λ text. string_bytes text ≡ message_of self.now) }
+    {
+        let text = match self {
+            Status::Bounded => format!(in alloc; "boundt: 0 Bounded"),
+            Status::Usage => format!(in alloc; "boundt: 2 Usage"),
+            Status::ReadFault { file } => format!(in alloc; "boundt: 6 ReadFault file {file}"),
+            Status::WriteFault { written } => {
+                format!(in alloc; "boundt: 7 WriteFault written {written}")
+            }
+            Status::Want => format!(in alloc; "boundt: 8 Want"),
+            Status::Limit(LimitFault::TooLong { file, limit }) => {
+                format!(in alloc; "boundt: 9 TooLong file {file} limit {limit}")
+            }
+            Status::NotYet { file } => format!(in alloc; "boundt: 10 NotYet file {file}"),
+        };
+        match text {
+            Ok(text) => Ok(text),
+            Err(_) => Err(Want),
+        }
+    }
+}
