@@ -1,4 +1,4 @@
+pub mod Answer
 pub mod Call
 pub mod Report
 pub mod Status
-pub mod ThinImage

@@ -1,52 +1,55 @@
 -- The report, and what it says of the runs of the image that it is of.
-use Rattle.std.specs.Prelude.{◌≡◌, ℕ, ◌<◌, ◌≤◌, List, length, ◌++◌, take, Option, IfSome, codes, decimal}
-use Rattle.bt_base.specs.Sink.{Appended}
-use Rattle.bt_command.specs.ThinImage.{IsThinImage}
+use Rattle.std.specs.Prelude.{◌≡◌, ℕ, List, [], ◌∷◌, ◌++◌, ◌==◌, ◌&&◌, not, drop, Option, Some, None, codes, decimal, nat_le, if◌then◌else◌}
+use Rattle.std.specs.List.{flat_map}
+use Rattle.bt_base.specs.Text.{hex8_of}
+use Rattle.bt_image.specs.Symbol.{functions, name_of}
 use Rattle.sparc_machine.specs.Run.{BoundsRuns}
-use Rattle.sparc_machine.specs.Straight.{AreStraight}
+use Rattle.sparc_machine.specs.Straight.{IsStraight, code_cost}
 
--- the report with this bound on the cycles of the function f
-abbrev pub report_of : ℕ → List ℕ
-report_of bound =
-    codes "boundt report 1\nroot 02000000 f bounded " ++ decimal bound
-    ++ codes "\ncontext 02000000 f plain bounded " ++ decimal bound ++ codes "\nend\n"
+-- a byte of a name: visible ASCII but the backslash as it is, any other as a backslash and two hexadecimal digits
+abbrev pub shown_byte : ℕ → List ℕ
+shown_byte b = if nat_le 33 b && (nat_le b 126 && not (b == 92)) then b ∷ [] else 92 ∷ drop 6 (hex8_of b)
 
--- where the bytes of a file are told, they are these
-abbrev pub AgreesWith : Option (List ℕ) → List ℕ → Type 0
-AgreesWith told bytes = IfSome told (λ those. bytes ≡ those)
+-- a name as it is shown
+abbrev pub shown : List ℕ → List ℕ
+shown name = flat_map shown_byte name
 
--- an image of straight code
-pub record IsAccepted (image code : List ℕ) : Type 0 where
-  pub thin : IsThinImage image code
-  pub straight : AreStraight code
+-- the name of the function at an address as it is shown, or a hyphen where there is none
+abbrev pub shown_name : Option (List ℕ) → List ℕ
+shown_name None = codes "-"
+shown_name (Some name) = shown name
 
--- the text is the report of the image, and its bound, the number of words of its code, holds of every run
-pub record IsReportOf (image text : List ℕ) : Type 0 where
-  pub code : List ℕ
-  pub accepted : IsAccepted image code
-  pub reads : text ≡ report_of (length code)
-  pub holds : BoundsRuns code (length code)
+-- the function at an address: the address and its name
+unfoldable pub function_text : List ℕ → ℕ → List ℕ
+function_text image entry = hex8_of entry ++ codes " " ++ shown_name (name_of image entry)
 
--- the whole report of the file was written
-pub record IsReported (file old new : Option (List ℕ)) : Type 0 where
-  pub image : List ℕ
-  pub same : AgreesWith file image
-  pub text : List ℕ
-  pub report : IsReportOf image text
-  pub written : Appended old new text
+-- the line of a root with this bound
+unfoldable pub root_line : List ℕ → ℕ → ℕ → List ℕ
+root_line image entry bound = codes "root " ++ function_text image entry ++ codes " bounded " ++ decimal bound ++ codes "\n"
 
--- only the first bytes of the report of the file were written
-pub record IsCutShort (file old new : Option (List ℕ)) (count : ℕ) : Type 0 where
-  pub image : List ℕ
-  pub same : AgreesWith file image
-  pub text : List ℕ
-  pub report : IsReportOf image text
-  pub less : count < length text
-  pub written : Appended old new (take count text)
+-- the line of the context in which nothing is known of the arguments
+unfoldable pub plain_line : List ℕ → ℕ → ℕ → List ℕ
+plain_line image entry bound = codes "context " ++ function_text image entry ++ codes " plain bounded " ++ decimal bound ++ codes "\n"
 
--- the file isn't an image of straight code
-pub record IsNotBuiltYet (file : Option (List ℕ)) (limit : ℕ) : Type 0 where
-  pub image : List ℕ
-  pub same : AgreesWith file image
-  pub within : length image ≤ limit
-  pub refused : (code : List ℕ) → IsAccepted image code → ⊥
+-- the report with this bound on the cycles of one root
+abbrev pub report_of : List ℕ → ℕ → ℕ → List ℕ
+report_of image entry bound = codes "boundt report 1\n" ++ root_line image entry bound ++ plain_line image entry bound ++ codes "end\n"
+
+-- the first of a list
+abbrev pub first_of : List ℕ → Option ℕ
+first_of [] = None
+first_of (x ∷ xs) = Some x
+
+-- the root is the least function of an image, and its code is straight
+pub record IsRoot (image : List ℕ) (entry count : ℕ) : Type 0 where
+  pub least : first_of (functions image) ≡ Some entry
+  pub straight : IsStraight image entry count
+
+-- the text is the report of an image with these costs, and its bound, what the words of the root's code cost, holds
+-- of every run of the root
+pub record IsReportOf (image costs text : List ℕ) : Type 0 where
+  pub entry : ℕ
+  pub count : ℕ
+  pub root : IsRoot image entry count
+  pub reads : text ≡ report_of image entry (code_cost image costs entry count)
+  pub holds : BoundsRuns image costs entry count (code_cost image costs entry count)

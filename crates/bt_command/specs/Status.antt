@@ -1,23 +1,74 @@
 -- The number and the message of each status.
 use Rattle.std.specs.Prelude.{ℕ, List, ◌++◌, codes, decimal}
+use Rattle.bt_image.specs.declared.refusal.Counted.{Counted}
+use Rattle.bt_image.specs.declared.refusal.Counted.TheVariants as counted
+use Rattle.bt_image.specs.declared.refusal.ImageRefusal.{ImageRefusal}
+use Rattle.bt_image.specs.declared.refusal.ImageRefusal.TheVariants as image
+use Rattle.cycle_table.specs.Class.{name_of}
+use Rattle.cycle_table.specs.declared.refusal.CycleRefusal.{CycleRefusal}
+use Rattle.cycle_table.specs.declared.refusal.CycleRefusal.TheVariants as cycles
+use Rattle.cycle_table.specs.declared.refusal.Why.{Why}
+use Rattle.cycle_table.specs.declared.refusal.Why.TheVariants as why
 use Rattle.bt_command.specs.declared.status.LimitFault.TheVariants.{TooLong}
 use Rattle.bt_command.specs.declared.status.Status.{Status}
-use Rattle.bt_command.specs.declared.status.Status.TheVariants.{Bounded, Usage, ReadFault, WriteFault, Want, Limit, NotYet}
+use Rattle.bt_command.specs.declared.status.Status.TheVariants.{Bounded, Usage, Image, Cycles, ReadFault, WriteFault, Want, Limit, NotYet}
 
 -- the exit status of the program
 abbrev pub code_of : Status → ℕ
 code_of Bounded = 0
 code_of Usage = 2
+code_of (Image refusal) = 3
+code_of (Cycles refusal) = 4
 code_of (ReadFault file) = 6
 code_of (WriteFault written) = 7
 code_of Want = 8
 code_of (Limit fault) = 9
 code_of (NotYet file) = 10
 
+-- what there may be too many of
+abbrev pub counted_text : Counted → List ℕ
+counted_text counted.Sections = codes "Sections"
+counted_text counted.Symbols = codes "Symbols"
+counted_text counted.Functions = codes "Functions"
+
+-- why a file is no image: the name, then each field's name and value
+abbrev pub image_text : ImageRefusal → List ℕ
+image_text (image.Short need have) = codes "Short need " ++ (decimal need ++ (codes " have " ++ decimal have))
+image_text image.Magic = codes "Magic"
+image_text (image.Class got) = codes "Class got " ++ decimal got
+image_text (image.Order got) = codes "Order got " ++ decimal got
+image_text (image.Kind got) = codes "Kind got " ++ decimal got
+image_text (image.Machine got) = codes "Machine got " ++ decimal got
+image_text (image.HeaderSize got) = codes "HeaderSize got " ++ decimal got
+image_text (image.SectionOutside n) = codes "SectionOutside n " ++ decimal n
+image_text (image.SectionOverlap a b) = codes "SectionOverlap a " ++ (decimal a ++ (codes " b " ++ decimal b))
+image_text (image.Alignment n) = codes "Alignment n " ++ decimal n
+image_text (image.SymbolTable n) = codes "SymbolTable n " ++ decimal n
+image_text (image.Limit what count) = codes "Limit what " ++ (counted_text what ++ (codes " count " ++ decimal count))
+image_text (image.Compressed n) = codes "Compressed n " ++ decimal n
+image_text image.Want = codes "Want"
+
+-- what is wrong with a line
+abbrev pub why_text : Why → List ℕ
+why_text why.Header = codes "Header"
+why_text why.Class = codes "Class"
+why_text why.Number = codes "Number"
+why_text why.Extra = codes "Extra"
+
+-- why a text is no table of cycles
+abbrev pub cycles_text : CycleRefusal → List ℕ
+cycles_text (cycles.Line n why) = codes "Line n " ++ (decimal n ++ (codes " why " ++ why_text why))
+cycles_text (cycles.Twice class n) = codes "Twice class " ++ (name_of class ++ (codes " n " ++ decimal n))
+cycles_text (cycles.Zero class n) = codes "Zero class " ++ (name_of class ++ (codes " n " ++ decimal n))
+cycles_text (cycles.Missing class) = codes "Missing class " ++ name_of class
+cycles_text cycles.Want = codes "Want"
+
 -- the message, without an end of line
 abbrev pub message_of : Status → List ℕ
 message_of Bounded = codes "boundt: 0 Bounded"
 message_of Usage = codes "boundt: 2 Usage"
+message_of (Image refusal) = codes "boundt: 3 " ++ image_text refusal
+message_of (Cycles refusal) = codes "boundt: 4 " ++ cycles_text refusal
 message_of (ReadFault file) = codes "boundt: 6 ReadFault file " ++ decimal file
 message_of (WriteFault written) = codes "boundt: 7 WriteFault written " ++ decimal written
 message_of Want = codes "boundt: 8 Want"

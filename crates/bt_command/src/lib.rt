@@ -1,12 +1,14 @@
 //! The commands of boundt, over any shelf of files and any sink.
 #![tactic(auto)]
 
+mod inputs;
+mod messages;
 mod reporting;
 mod running;
 mod status;
 #[cfg(test)]
 mod tests;
-mod thin_image;
 
-pub use running::{IMAGE_LIMIT, run_alone};
+pub use inputs::{IMAGE_LIMIT, TABLE_LIMIT};
+pub use running::run_alone;
 pub use status::{LimitFault, Status};

@@ -1,46 +1,120 @@
-ghost use Rattle.std.specs.Prelude.{◌≡◌, ℕ, List, IfOk, IsErrOf};
-ghost use Rattle.bt_command.specs.Report.{report_of, IsAccepted, IsReportOf};
+ghost use Rattle.std.specs.Prelude.{◌≡◌, ◌++◌, ℕ, List, IfOk, IfSome, IfNone, IsErrOf};
+ghost use Rattle.bt_command.specs.Report.{shown_byte, shown, shown_name, function_text, root_line, plain_line, report_of, first_of, IsRoot, IsReportOf};
+ghost use Rattle.bt_image.specs.Symbol.{functions, name_of};
 
-use crate::thin_image;
-use bt_base::{Want, put_decimal};
-use sparc_machine::is_straight;
+use bt_base::{Want, hex8, put_decimal};
+use bt_image::Image;
+use cycle_table::Cycles;
+use sparc_machine::straight_from;
 use std::alloc::Global;
 
 /// Why no report was made.
 #[derive(Clone, Copy, Debug, PartialEq, Eq)]
 pub enum NoReport {
-    /// The image isn't one of straight code.
-    NotStraight,
+    /// The image has no function, or the code of the least one isn't straight.
+    NoRoot,
     /// Memory was wanting.
     Want,
 }
 
-/// The report with this bound on the cycles of the function f.
-fn report(alloc: Global, bound: u64) -> Result<Vec<u8>, Want>
-    ensures { IfOk result (λ text. text.items ≡ report_of bound) }
+/// Appends a byte of a name.
+fn put_byte(text: &mut Vec<u8>, byte: u8) -> Result<(), Want>
+    ensures { IfOk result (λ _. text.new.items ≡ text.old.items ++ shown_byte byte) }
 {
-    let mut text = Vec::from_slice(alloc, b"boundt report 1\nroot 02000000 f bounded ")?;
-    put_decimal(&mut text, bound)?;
-    text.extend_from_slice(b"\ncontext 02000000 f plain bounded ")?;
-    put_decimal(&mut text, bound)?;
-    text.extend_from_slice(b"\nend\n")?;
+    if (33..=126).contains(&byte) && byte != b'\\' {
+        text.push(byte)?;
+    } else {
+        text.push(b'\\')?;
+        text.extend_from_slice(&hex8(u32::from(byte))[6..])?;
+    }
+    Ok(())
+}
+
+/// Appends a name: visible ASCII but the backslash as it is, any other byte as a backslash and two digits.
+fn put_name(text: &mut Vec<u8>, name: &[u8]) -> Result<(), Want>
+    ensures { IfOk result (λ _. text.new.items ≡ text.old.items ++ shown name.now) }
+{
+    for byte in name {
+        put_byte(text, *byte)?;
+    }
+    Ok(())
+}
+
+/// Appends the address and the name of a function.
+#[tactic(auto, unfolding(crate::specs::Report::function_text))]
+fn put_function(text: &mut Vec<u8>, image: &Image, entry: u32) -> Result<(), Want>
+    ensures { IfOk result (λ _. text.new.items ≡ text.old.items ++ function_text image.now entry) }
+{
+    text.extend_from_slice(&hex8(entry))?;
+    text.extend_from_slice(b" ")?;
+    match image.name_of(entry) {
+        Some(name) => put_name(text, name),
+        None => {
+            text.extend_from_slice(b"-")?;
+            Ok(())
+        }
+    }
+}
+
+/// Appends the line of a root.
+#[tactic(auto, unfolding(crate::specs::Report::root_line))]
+fn put_root(text: &mut Vec<u8>, image: &Image, entry: u32, bound: u64) -> Result<(), Want>
+    ensures { IfOk result (λ _. text.new.items ≡ text.old.items ++ root_line image.now entry bound) }
+{
+    text.extend_from_slice(b"root ")?;
+    put_function(text, image, entry)?;
+    text.extend_from_slice(b" bounded ")?;
+    put_decimal(text, bound)?;
+    text.push(b'\n')?;
+    Ok(())
+}
+
+/// Appends the line of the context in which nothing is known of the arguments.
+#[tactic(auto, unfolding(crate::specs::Report::plain_line))]
+fn put_plain(text: &mut Vec<u8>, image: &Image, entry: u32, bound: u64) -> Result<(), Want>
+    ensures { IfOk result (λ _. text.new.items ≡ text.old.items ++ plain_line image.now entry bound) }
+{
+    text.extend_from_slice(b"context ")?;
+    put_function(text, image, entry)?;
+    text.extend_from_slice(b" plain bounded ")?;
+    put_decimal(text, bound)?;
+    text.push(b'\n')?;
+    Ok(())
+}
+
+/// The report with this bound on the cycles of one root.
+fn report(alloc: Global, image: &Image, entry: u32, bound: u64) -> Result<Vec<u8>, Want>
+    ensures { IfOk result (λ text. text.items ≡ report_of image.now entry bound) }
+{
+    let mut text = Vec::from_slice(alloc, b"boundt report 1\n")?;
+    put_root(&mut text, image, entry, bound)?;
+    put_plain(&mut text, image, entry, bound)?;
+    text.extend_from_slice(b"end\n")?;
     Ok(text)
 }
 
-/// The report of an image of straight code: its bound is the number of its words.
-pub fn report_for(alloc: Global, image: &[u8]) -> Result<Vec<u8>, NoReport>
-    ensures report { IfOk result (λ text. IsReportOf image.now text.items) }
-    ensures refused { IsErrOf result NoReport.NotStraight → (code : List ℕ) → IsAccepted image.now code → ⊥ }
+/// The least function of an image.
+fn least_function(image: &Image) -> Option<u32>
+    ensures { result ≡ first_of (functions image.now) }
 {
-    let code = match thin_image::read(alloc, image) {
-        Ok(Some(code)) => code,
-        Ok(None) => return Err(NoReport::NotStraight),
-        Err(_) => return Err(NoReport::Want),
+    image.functions().first().copied()
+}
+
+/// The report of an image: its root is the least function, whose code is straight, and its bound is what the
+/// words of that code cost.
+pub fn report_for(alloc: Global, image: &Image, cycles: &Cycles) -> Result<Vec<u8>, NoReport>
+    ensures report { IfOk result (λ text. IsReportOf image.now cycles.now text.items) }
+    ensures refused { IsErrOf result NoReport.NoRoot → (entry count : ℕ) → IsRoot image.now entry count → ⊥ }
+{
+    let entry = match least_function(image) {
+        Some(entry) => entry,
+        None => return Err(NoReport::NoRoot),
     };
-    if !is_straight(&code) {
-        return Err(NoReport::NotStraight);
-    }
-    match report(alloc, code.len() as u64) {
+    let code = match straight_from(image, cycles, entry) {
+        Some(code) => code,
+        None => return Err(NoReport::NoRoot),
+    };
+    match report(alloc, image, entry, code.cycles) {
         Ok(text) => Ok(text),
         Err(_) => Err(NoReport::Want),
     }

@@ -1,16 +1,23 @@
 ghost use Rattle.std.specs.Prelude.{◌≡◌, IfOk, string_bytes};
 ghost use Rattle.bt_command.specs.Status.{code_of, message_of};
 
+use crate::messages::{cycles_text, image_text};
 use bt_base::Want;
+use bt_image::ImageRefusal;
+use cycle_table::CycleRefusal;
 use std::alloc::Global;
 
 /// What a call of the program came to.
 #[derive(Clone, Copy, Debug, PartialEq, Eq)]
 pub enum Status {
-    /// The whole report was written, and each root has a bound.
+    /// The whole text was written, and each root has a bound.
     Bounded,
     /// The words are no command.
     Usage,
+    /// The image is none, for this reason.
+    Image(ImageRefusal),
+    /// The table of cycles is none, for this reason.
+    Cycles(CycleRefusal),
     /// A read of this file failed; files are numbered from 1, in the order of the words.
     ReadFault { file: u32 },
     /// A write failed after so many bytes of the text.
@@ -38,6 +45,8 @@ impl Status {
         match self {
             Status::Bounded => 0,
             Status::Usage => 2,
+            Status::Image(_) => 3,
+            Status::Cycles(_) => 4,
             Status::ReadFault { .. } => 6,
             Status::WriteFault { .. } => 7,
             Status::Want => 8,
@@ -46,13 +55,22 @@ impl Status {
         }
     }
 
-    /// The message: `boundt:`, the exit status, the name, then each field's name and its value in decimal.
+    /// The message: `boundt:`, the exit status, the name of the status or of the refusal in it, then each
+    /// field's name and its value. Numbers are decimal, classes and other enums are written by their names.
     pub fn message(&self, alloc: Global) -> Result<String, Want>
         ensures { IfOk result (λ text. string_bytes text ≡ message_of self.now) }
     {
         let text = match self {
             Status::Bounded => format!(in alloc; "boundt: 0 Bounded"),
             Status::Usage => format!(in alloc; "boundt: 2 Usage"),
+            Status::Image(refusal) => {
+                let refusal = image_text(alloc, refusal)?;
+                format!(in alloc; "boundt: 3 {refusal}")
+            }
+            Status::Cycles(refusal) => {
+                let refusal = cycles_text(alloc, refusal)?;
+                format!(in alloc; "boundt: 4 {refusal}")
+            }
             Status::ReadFault { file } => format!(in alloc; "boundt: 6 ReadFault file {file}"),
             Status::WriteFault { written } => {
                 format!(in alloc; "boundt: 7 WriteFault written {written}")

@@ -68,7 +68,7 @@ name_of Floatstore = codes "floatstore"
 name_of Floatstoredouble = codes "floatstoredouble"
 name_of Trap = codes "trap"
 name_of Annulled = codes "annulled"
-name_of Unmodelled = []
+name_of Unmodelled = codes "unmodelled"
 
 -- the class that a word names
 unfoldable pub class_named : List ℕ → Option CostClass

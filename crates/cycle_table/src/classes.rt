@@ -45,39 +45,39 @@ pub fn place_of(class: CostClass) -> usize
     class as usize
 }
 
-/// The name of a class in a table.
-fn name_of(class: CostClass) -> &'static [u8]
+/// The name of a class in a table; the class that isn't modelled stands in none, and is `unmodelled`.
+pub fn class_name(class: CostClass) -> &'static str
     ensures { result.now ≡ name_of class }
 {
     match class {
-        CostClass::Alu => b"alu",
-        CostClass::Shift => b"shift",
-        CostClass::Sethi => b"sethi",
-        CostClass::Tagged => b"tagged",
-        CostClass::Mulscc => b"mulscc",
-        CostClass::Save => b"save",
-        CostClass::Restore => b"restore",
-        CostClass::Branch => b"branch",
-        CostClass::Floatbranch => b"floatbranch",
-        CostClass::Call => b"call",
-        CostClass::Jump => b"jump",
-        CostClass::Load => b"load",
-        CostClass::Loaddouble => b"loaddouble",
-        CostClass::Store => b"store",
-        CostClass::Storedouble => b"storedouble",
-        CostClass::Atomic => b"atomic",
-        CostClass::Ready => b"ready",
-        CostClass::Writey => b"writey",
-        CostClass::Flush => b"flush",
-        CostClass::Floatop => b"floatop",
-        CostClass::Floatcmp => b"floatcmp",
-        CostClass::Floatload => b"floatload",
-        CostClass::Floatloaddouble => b"floatloaddouble",
-        CostClass::Floatstore => b"floatstore",
-        CostClass::Floatstoredouble => b"floatstoredouble",
-        CostClass::Trap => b"trap",
-        CostClass::Annulled => b"annulled",
-        CostClass::Unmodelled => b"",
+        CostClass::Alu => "alu",
+        CostClass::Shift => "shift",
+        CostClass::Sethi => "sethi",
+        CostClass::Tagged => "tagged",
+        CostClass::Mulscc => "mulscc",
+        CostClass::Save => "save",
+        CostClass::Restore => "restore",
+        CostClass::Branch => "branch",
+        CostClass::Floatbranch => "floatbranch",
+        CostClass::Call => "call",
+        CostClass::Jump => "jump",
+        CostClass::Load => "load",
+        CostClass::Loaddouble => "loaddouble",
+        CostClass::Store => "store",
+        CostClass::Storedouble => "storedouble",
+        CostClass::Atomic => "atomic",
+        CostClass::Ready => "ready",
+        CostClass::Writey => "writey",
+        CostClass::Flush => "flush",
+        CostClass::Floatop => "floatop",
+        CostClass::Floatcmp => "floatcmp",
+        CostClass::Floatload => "floatload",
+        CostClass::Floatloaddouble => "floatloaddouble",
+        CostClass::Floatstore => "floatstore",
+        CostClass::Floatstoredouble => "floatstoredouble",
+        CostClass::Trap => "trap",
+        CostClass::Annulled => "annulled",
+        CostClass::Unmodelled => "unmodelled",
     }
 }
 
@@ -89,7 +89,7 @@ pub fn class_named(word: &[u8]) -> Option<CostClass>
     CLASSES
         .iter()
         .copied()
-        .find(|class| name_of(*class) == word)
+        .find(|class| class_name(*class).as_bytes() == word)
 }
 
 /// The cost of a class among the costs of all, and 0 where it has none.

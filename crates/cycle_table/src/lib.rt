@@ -9,6 +9,7 @@ mod reading;
 mod refusal;
 mod table;
 
+pub use classes::class_name;
 pub use laws::{faults_are_first, tables_are_whole};
 pub use refusal::{CycleRefusal, Why};
 pub use table::Cycles;

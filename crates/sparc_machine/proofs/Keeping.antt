@@ -1,8 +1,7 @@
 -- Each instruction keeps the number of registers, the window below 8, the mask, the alignment and the cycles.
-use Rattle.std.proofs.Common.{◌≡◌, ◌≢◌, ℕ, ◌+◌, ◌*◌, ◌%◌, ◌^◌, ◌<◌, ◌⊎◌, inl, inr, Bool, true, false, List, length, Option, Some, None, refl, sym, ap, subst, ◌∙◌, arith, cond, eqb}
+use Rattle.std.proofs.Common.{◌≡◌, ℕ, ◌+◌, ◌*◌, ◌%◌, ◌^◌, ◌<◌, ◌⊎◌, inl, inr, Bool, true, false, List, length, Option, Some, None, refl, sym, subst, ◌∙◌, arith, cond, eqb}
 use Rattle.std.proofs.Math.ListN.{length-set}
 use Rattle.std.specs.Prelude.{slice_set, if◌then◌else◌, ◌&&◌, ℤ}
-use Rattle.std.specs.Int.{w32, cast_unsigned}
 use Rattle.std.proofs.lemmas.Bool.Decides.{eqb_tells}
 use Rattle.cycle_table.specs.Cycles.{cost_of}
 use Rattle.sparc_decode.specs.Instr.{instruction_of}
@@ -10,16 +9,16 @@ use Rattle.sparc_decode.specs.declared.instruction.Instr.{Instr}
 use Rattle.sparc_decode.specs.declared.instruction.Instr.TheVariants.{Call, Unimp, Sethi, Branch, FloatBranch, Alu, Tagged, MulStep, Shift, ReadY, WriteY, FloatOp, FloatCmp, Jmpl, Flush, Save, Restore, Ticc, Load, Store, Atomic, FloatMem, Unmodelled as UnmodelledWord, Unknown}
 use Rattle.sparc_decode.specs.declared.instruction.LoadKind.{LoadKind}
 use Rattle.sparc_decode.specs.declared.instruction.LoadKind.TheVariants.{Ld, Ldub, Lduh, Ldd, Ldsb, Ldsh}
-use Rattle.sparc_machine.specs.Effect.{Effect, Done, Trapped, goes_on, flags_in, with_flags, is_in_order, in_order, target_of, address_in, branched, branch_effect, float_taken, jumped, is_invalid, turned, loaded, load_effect, is_odd_double_load, write_trap, store_effect, is_odd_double_store, atomic_effect, float_effect, unless_trapped, effect_of, paid, stepped_from, step_of, code_word}
+use Rattle.sparc_machine.specs.Effect.{Effect, Done, Trapped, goes_on, flags_in, with_flags, is_in_order, in_order, target_of, address_in, branched, branch_effect, float_taken, jumped, is_invalid, turned, loaded, load_effect, is_odd_double_load, write_trap, store_effect, is_odd_double_store, atomic_effect, float_effect, unless_trapped, effect_of, paid, stepped_from}
 use Rattle.sparc_machine.specs.Memory.{load_size, store_size, atomic_size, float_size, is_float_store}
-use Rattle.sparc_machine.specs.Kept.{AreAligned, IsKept, EachStepKeeps}
+use Rattle.sparc_machine.specs.Kept.{IsKept, EachStepKeeps}
 use Rattle.sparc_machine.specs.Machine.{with_register, going_to, advanced, charged}
 use Rattle.sparc_machine.specs.Register.{physical_of}
-use Rattle.sparc_machine.specs.Step.{Outcome, Stepped, Stopped}
+use Rattle.sparc_machine.specs.Outcome.{Stepped}
 use Rattle.sparc_machine.specs.declared.free.Free.{Free}
 use Rattle.sparc_machine.specs.declared.machine.Machine.{Machine}
-use Rattle.sparc_machine.specs.declared.stepping.Trap.{Trap}
-use Rattle.sparc_machine.specs.declared.stepping.Trap.TheVariants.{Misaligned, Unmodelled, Overflow, Underflow}
+use Rattle.sparc_machine.specs.declared.trap.Trap.{Trap}
+use Rattle.sparc_machine.specs.declared.trap.Trap.TheVariants.{Misaligned, Unmodelled, Overflow, Underflow}
 use Rattle.sparc_decode.specs.declared.instruction.FloatKind.{FloatKind}
 use Rattle.sparc_decode.specs.declared.instruction.StoreKind.{StoreKind}
 use Rattle.word_ops.specs.Condition.{holds_of}

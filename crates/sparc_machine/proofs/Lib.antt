@@ -1,2 +1,3 @@
+pub mod BoundedRuns
 pub mod Keeping
 pub mod StraightRuns

@@ -1,23 +1,24 @@
 -- A run over straight code stands at its words one after the other, up to the pop of its frame.
-use Rattle.std.proofs.Common.{◌≡◌, ℕ, zero, suc, ◌+◌, ◌-◌, ◌*◌, ◌/◌, ◌%◌, ◌^◌, ◌<◌, ◌≤◌, inl, inr, true, false, List, [], ◌∷◌, length, Option, Some, refl, sym, ap, subst, ◌∙◌, arith, cond, eqb}
-use Rattle.std.proofs.Math.Nat.{eq-or-lt_of_le}
-use Rattle.std.proofs.lemmas.Bool.{eq-eqb, le-leb}
-use Rattle.std.proofs.lemmas.Option.{slice_get-get_or}
-use Rattle.std.specs.Prelude.{slice_get, slice_index, slice_set, pos}
+use Rattle.std.proofs.Common.{◌≡◌, ◌≢◌, ℕ, zero, suc, ◌+◌, ◌-◌, ◌*◌, ◌%◌, ◌^◌, ◌<◌, ◌≤◌, inl, inr, Bool, true, false, List, [], ◌∷◌, length, Option, Some, None, refl, sym, ap, subst, ◌∙◌, arith, cond, eqb}
+use Rattle.std.proofs.Math.Nat.{eq-or-lt_of_le, le_of_eq}
+use Rattle.std.specs.Prelude.{slice_get, slice_set, pos}
 use Rattle.std.specs.Option.{option_map}
+use Rattle.bt_image.specs.Image.{word, is_code}
+use Rattle.cycle_table.specs.Cycles.{cost_of}
 use Rattle.sparc_decode.specs.Instr.{instruction_of}
 use Rattle.sparc_decode.specs.declared.instruction.AluOp.TheVariants.{Add, Or}
 use Rattle.sparc_decode.specs.declared.instruction.Instr.{Instr}
 use Rattle.sparc_decode.specs.declared.instruction.Instr.TheVariants.{Sethi, Alu, Jmpl}
 use Rattle.sparc_decode.specs.declared.instruction.Second.TheVariants.{Imm}
+use Rattle.sparc_machine.specs.Effect.{Done, Trapped, effect_of, in_order, is_in_order, jumped, paid, stepped_from, code_word}
+use Rattle.sparc_machine.specs.Frame.{Transfer, Stays, Returns, Frame, StepsTo, RunsFrom, transfer_from, transfer_of, instruction_at, frames_from}
 use Rattle.sparc_machine.specs.Machine.{with_register, going_to, advanced, charged}
+use Rattle.sparc_machine.specs.Outcome.{Stepped}
 use Rattle.sparc_machine.specs.Register.{physical_of}
-use Rattle.sparc_machine.specs.Run.{Transfer, Stay, Return, transfer_from, transfer_of, instruction_at, IsRunFrom, EndsAtPop, BoundsRuns}
-use Rattle.sparc_machine.specs.Step.{Stepped, Stopped, fetched, effect_of, jumped, paid, executed, Step}
-use Rattle.sparc_machine.specs.Straight.{AreStraight, only_computes, return_word}
+use Rattle.sparc_machine.specs.Straight.{IsStraight, only_computes, passes, code_instruction, cost_alone, code_cost, return_word}
+use Rattle.sparc_machine.specs.declared.free.Free.{Free}
 use Rattle.sparc_machine.specs.declared.machine.Machine.{Machine}
-use Rattle.sparc_machine.specs.declared.stepping.TheConstants.{ORIGIN}
-use Rattle.sparc_machine.specs.declared.stepping.Trap.TheVariants.{Unmodelled, Misaligned}
+use Rattle.sparc_machine.specs.declared.trap.Trap.TheVariants.{Unmodelled, Misaligned}
 
 -- a write of a register leaves the program counters and the cycles
 record SameCounters (m next : Machine) : Type 0 where
@@ -31,154 +32,191 @@ same_counters m r value = elim (eqb r 0) as (λ b. SameCounters m (cond b m (rec
   | false ↦ record { pc = refl; npc = refl; cycles = refl }
 ]
 
--- a step that goes on by one instruction, at the cost of a cycle
-record GoesOn (m next : Machine) : Type 0 where
+-- a step that goes on by one instruction, at a cost
+record GoesOn (cost : ℕ) (m next : Machine) : Type 0 where
   pub pc : next.pc ≡ m.npc
   pub npc : next.npc ≡ (m.npc + 4) % 2 ^ 32
-  pub cycles : next.cycles ≡ m.cycles + 1
+  pub cycles : next.cycles ≡ m.cycles + cost
 
--- a step that goes on to its next instruction and from there anywhere, at the cost of a cycle
-record GoesSomewhere (m next : Machine) : Type 0 where
+-- a step that goes on to its next instruction and from there anywhere, at a cost
+record GoesSomewhere (cost : ℕ) (m next : Machine) : Type 0 where
   pub pc : next.pc ≡ m.npc
-  pub cycles : next.cycles ≡ m.cycles + 1
+  pub cycles : next.cycles ≡ m.cycles + cost
 
-wrote : (m next : Machine) (r value : ℕ) → Stepped (charged (advanced (with_register m r value)) 1) ≡ Stepped next → GoesOn m next
-wrote m next r value e =
+wrote : (m next : Machine) (r value cost : ℕ) → Stepped (charged (advanced (with_register m r value)) cost) ≡ Stepped next → GoesOn cost m next
+wrote m next r value cost e =
     let same : SameCounters m (with_register m r value) = same_counters m r value in
-    let is : charged (advanced (with_register m r value)) 1 ≡ next = cc in
+    let is : charged (advanced (with_register m r value)) cost ≡ next = cc in
     record {
       pc = sym (ap (λ (s : Machine). s.pc) is) ∙ same.npc;
       npc = sym (ap (λ (s : Machine). s.npc) is) ∙ ap (λ (n : ℕ). (n + 4) % 2 ^ 32) same.npc;
-      cycles = sym (ap (λ (s : Machine). s.cycles) is) ∙ ap (λ (n : ℕ). n + 1) same.cycles;
+      cycles = sym (ap (λ (s : Machine). s.cycles) is) ∙ ap (λ (n : ℕ). n + cost) same.cycles;
     }
 
-computed : (m next : Machine) (i : Instr) → only_computes i ≡ true → paid (effect_of m i) ≡ Stepped next → GoesOn m next
-computed m next (Sethi rd imm) h e = wrote m next rd (imm * 1024) e
-computed m next (Alu Add false rd rs1 second) h e = wrote m next rd _ e
-computed m next (Alu Or false rd rs1 second) h e = wrote m next rd _ e
-computed m next _ h e = cc
+computed : (image costs : List ℕ) (free : Free) (m next : Machine) (i : Instr) → only_computes i ≡ true → paid costs i (effect_of image free m i) ≡ Stepped next → GoesOn (cost_of costs i false) m next
+computed image costs free m next (Sethi rd imm) h e = wrote m next rd (imm * 1024) _ e
+computed image costs free m next (Alu Add false rd rs1 second) h e = wrote m next rd _ _ e
+computed image costs free m next (Alu Or false rd rs1 second) h e = wrote m next rd _ _ e
+computed image costs free m next _ h e = cc
 
 -- an instruction that only computes leaves the stack
-stays : (i : Instr) (delay : Option Instr) → only_computes i ≡ true → transfer_from (Some i) delay ≡ Stay
-stays (Sethi rd imm) delay h = refl
-stays (Alu op sets rd rs1 second) delay h = refl
-stays _ delay h = cc
+stays : (m : Machine) (i : Instr) (delay : Option Instr) → only_computes i ≡ true → transfer_from m (Some i) delay ≡ Stays
+stays m (Sethi rd imm) delay h = refl
+stays m (Alu op sets rd rs1 second) delay h = refl
+stays m _ delay h = cc
 
--- the word of the return
-the_return : instruction_of return_word ≡ Jmpl 0 15 (Imm (pos 8))
+-- the instruction of the return
+abbrev pub leaf_return : Instr
+leaf_return = Jmpl 0 15 (Imm (pos 8))
+
+pub the_return : instruction_of return_word ≡ leaf_return
 unfolding instruction_of
 the_return = refl
 
 -- a jump goes to its delay instruction first
-jumps : (m next : Machine) (rd target : ℕ) → paid (jumped m rd target) ≡ Stepped next → GoesSomewhere m next
-jumps m next rd target e =
-    elim (eqb m.npc ((m.pc + 4) % 2 ^ 32)) as (λ b. paid (cond b (cond (eqb (target % 4) 0) (Stepped (going_to (with_register m rd m.pc) target)) (Stopped Misaligned)) (Stopped Unmodelled)) ≡ Stepped next → GoesSomewhere m next) [
+jumps : (costs : List ℕ) (i : Instr) (m next : Machine) (rd target : ℕ) → paid costs i (in_order m (jumped m rd target)) ≡ Stepped next → GoesSomewhere (cost_of costs i false) m next
+jumps costs i m next rd target e =
+    elim (is_in_order m) as (λ b. paid costs i (cond b (cond (eqb (target % 4) 0) (Done (going_to (with_register m rd m.pc) target) false) (Trapped Misaligned)) (Trapped Unmodelled)) ≡ Stepped next → GoesSomewhere (cost_of costs i false) m next) [
       | true ↦
-          elim (eqb (target % 4) 0) as (λ b. paid (cond b (Stepped (going_to (with_register m rd m.pc) target)) (Stopped Misaligned)) ≡ Stepped next → GoesSomewhere m next) [
+          elim (eqb (target % 4) 0) as (λ b. paid costs i (cond b (Done (going_to (with_register m rd m.pc) target) false) (Trapped Misaligned)) ≡ Stepped next → GoesSomewhere (cost_of costs i false) m next) [
             | true ↦ λ k.
                 let same : SameCounters m (with_register m rd m.pc) = same_counters m rd m.pc in
-                let is : charged (going_to (with_register m rd m.pc) target) 1 ≡ next = cc in
-                record { pc = sym (ap (λ (s : Machine). s.pc) is) ∙ same.npc; cycles = sym (ap (λ (s : Machine). s.cycles) is) ∙ ap (λ (n : ℕ). n + 1) same.cycles }
+                let is : charged (going_to (with_register m rd m.pc) target) (cost_of costs i false) ≡ next = cc in
+                record { pc = sym (ap (λ (s : Machine). s.pc) is) ∙ same.npc; cycles = sym (ap (λ (s : Machine). s.cycles) is) ∙ ap (λ (n : ℕ). n + cost_of costs i false) same.cycles }
             | false ↦ λ k. cc
           ]
       | false ↦ λ k. cc
     ]
     e
 
--- the word at a place of the code
-at_place : (code : List ℕ) (i : ℕ) → i < length code → length code ≤ 131072 → fetched code (ORIGIN + 4 * i) ≡ Some (slice_index code i)
-at_place code i within few =
-    let place : (ORIGIN + 4 * i - ORIGIN) / 4 ≡ i = omega arith in
-    let aligned : (ORIGIN + 4 * i) % 4 ≡ 0 = omega arith in
-    let above : ORIGIN ≤ ORIGIN + 4 * i = omega arith in
-    rw (le-leb ORIGIN (ORIGIN + 4 * i) above, eq-eqb ((ORIGIN + 4 * i) % 4) 0 aligned, place) (slice_get-get_or code i 0 within)
+-- an instruction that a test passes is there
+record Passed (image : List ℕ) (test : Instr → Bool) (a : ℕ) : Type 0 where
+  pub this : ℕ
+  pub word : code_word image a ≡ Some this
+  pub holds : test (instruction_of this) ≡ true
 
--- the machines from the one at place i on
-record IsRest (code : List ℕ) (i cycles : ℕ) (run : List Machine) : Type 0 where
-  pub ends : length run + i ≤ length code + 1
-  pub places : (k : ℕ) (m : Machine) → i + k < length code → slice_get run k ≡ Some m → m.pc ≡ ORIGIN + 4 * (i + k)
-  pub spends : (k : ℕ) (m : Machine) → slice_get run k ≡ Some m → m.cycles ≤ cycles + length code
+passed : (image : List ℕ) (test : Instr → Bool) (a : ℕ) → passes test (code_instruction image a) ≡ true → Passed image test a
+passed image test a h = go (code_word image a) refl h where
+  go : (w : Option ℕ) → code_word image a ≡ w → passes test (option_map instruction_of w) ≡ true → Passed image test a
+  go None e t = cc
+  go (Some this) e t = record { this = this; word = e; holds = t }
+
+-- the step from an address where a word of code stands
+step_at : (image costs : List ℕ) (a this : ℕ) (m next : Machine) (step : StepsTo image costs m next) → m.pc ≡ a → code_word image a ≡ Some this → paid costs (instruction_of this) (effect_of image step.free m (instruction_of this)) ≡ Stepped next
+step_at image costs a this m next step at word =
+    let fetch : code_word image m.pc ≡ Some this = ap (code_word image) at ∙ word in
+    subst (λ (w : Option ℕ). stepped_from image costs step.free m w ≡ Stepped next) fetch step.steps
+
+-- a word of code is the word at its address
+word_of_code : (image : List ℕ) (a this : ℕ) → code_word image a ≡ Some this → word image a ≡ Some this
+word_of_code image a this h = go (is_code image a) h where
+  go : (b : Bool) → cond b (word image a) None ≡ Some this → word image a ≡ Some this
+  go true e = e
+  go false e = cc
+
+-- what the step from an address where a word of code stands does to the stack
+transfer_at : (image : List ℕ) (a this : ℕ) (m : Machine) → m.pc ≡ a → code_word image a ≡ Some this → transfer_of image m ≡ transfer_from m (Some (instruction_of this)) (instruction_at image ((m.pc + 4) % 2 ^ 32))
+transfer_at image a this m at code =
+    let fetch : word image m.pc ≡ Some this = ap (word image) at ∙ word_of_code image a this code in
+    ap (λ (w : Option ℕ). transfer_from m (option_map instruction_of w) (instruction_at image ((m.pc + 4) % 2 ^ 32))) fetch
+
+-- the cost of more words is no less
+cost_within : (image costs : List ℕ) (entry i n : ℕ) → i ≤ n → code_cost image costs entry i ≤ code_cost image costs entry n
+cost_within image costs entry i zero h = le_of_eq (ap (code_cost image costs entry) (let same : i ≡ 0 = omega arith in same))
+cost_within image costs entry i (suc n) h = elim (eq-or-lt_of_le h) [
+  | inl same ↦ le_of_eq (ap (code_cost image costs entry) same)
+  | inr less ↦ omega (arith, cost_within image costs entry i n (omega arith))
+]
+
+-- the cost of one word more
+pub code_cost_next : (image costs : List ℕ) (entry i : ℕ) → code_cost image costs entry (i + 1) ≡ code_cost image costs entry i + cost_alone costs (code_instruction image (entry + 4 * i))
+code_cost_next image costs entry i = ap (code_cost image costs entry) (let same : i + 1 ≡ suc i = omega arith in same)
+
+-- the cost of a word where its instruction is known
+cost_of_word : (image costs : List ℕ) (a this : ℕ) → code_word image a ≡ Some this → cost_alone costs (code_instruction image a) ≡ cost_of costs (instruction_of this) false
+cost_of_word image costs a this h = ap (λ (w : Option ℕ). cost_alone costs (option_map instruction_of w)) h
+
+-- the machines from the one at place i on, of so many words that cost no more than the bound
+pub record IsRest (entry count most : ℕ) (i : ℕ) (run : List Machine) : Type 0 where
+  pub ends : length run + i ≤ count + 1
+  pub places : (k : ℕ) (m : Machine) → i + k < count → slice_get run k ≡ Some m → m.pc ≡ entry + 4 * (i + k)
+  pub spends : (k : ℕ) (m : Machine) → slice_get run k ≡ Some m → m.cycles ≤ most
 
 -- nothing is left
-rest_none : (code : List ℕ) (i cycles : ℕ) → i ≤ length code + 1 → IsRest code i cycles []
-rest_none code i cycles h = record { ends = omega arith; places = λ k m w e. cc; spends = λ k m e. cc }
+rest_none : (entry count most i : ℕ) → i ≤ count + 1 → IsRest entry count most i []
+rest_none entry count most i h = record { ends = omega arith; places = λ k m w e. cc; spends = λ k m e. cc }
 
 -- one machine more in front
-rest_cons : (code : List ℕ) (i cycles : ℕ) (m : Machine) (run : List Machine) → (i < length code → m.pc ≡ ORIGIN + 4 * i) → m.cycles ≤ cycles + length code → IsRest code (i + 1) cycles run → IsRest code i cycles (m ∷ run)
-rest_cons code i cycles m run at spent rest = record { ends = omega (arith, rest.ends); places = rest_places; spends = rest_spends } where
-  rest_places : (k : ℕ) (x : Machine) → i + k < length code → slice_get (m ∷ run) k ≡ Some x → x.pc ≡ ORIGIN + 4 * (i + k)
-  rest_places zero x w e = let same : m ≡ x = cc in subst (λ (y : Machine). y.pc ≡ ORIGIN + 4 * (i + 0)) same (omega (arith, at (omega arith)))
+rest_cons : (entry count most i : ℕ) (m : Machine) (run : List Machine) → (i < count → m.pc ≡ entry + 4 * i) → m.cycles ≤ most → IsRest entry count most (i + 1) run → IsRest entry count most i (m ∷ run)
+rest_cons entry count most i m run at spent rest = record { ends = omega (arith, rest.ends); places = rest_places; spends = rest_spends } where
+  rest_places : (k : ℕ) (x : Machine) → i + k < count → slice_get (m ∷ run) k ≡ Some x → x.pc ≡ entry + 4 * (i + k)
+  rest_places zero x w e = let same : m ≡ x = cc in subst (λ (y : Machine). y.pc ≡ entry + 4 * (i + 0)) same (omega (arith, at (omega arith)))
   rest_places (suc k) x w e = omega (arith, rest.places k x (omega arith) e)
 
-  rest_spends : (k : ℕ) (x : Machine) → slice_get (m ∷ run) k ≡ Some x → x.cycles ≤ cycles + length code
-  rest_spends zero x e = let same : m ≡ x = cc in subst (λ (y : Machine). y.cycles ≤ cycles + length code) same spent
+  rest_spends : (k : ℕ) (x : Machine) → slice_get (m ∷ run) k ≡ Some x → x.cycles ≤ most
+  rest_spends zero x e = let same : m ≡ x = cc in subst (λ (y : Machine). y.cycles ≤ most) same spent
   rest_spends (suc k) x e = rest.spends k x e
 
--- a machine at a place of the code
-record IsAt (i cycles : ℕ) (m : Machine) : Type 0 where
-  pub pc : m.pc ≡ ORIGIN + 4 * i
-  pub cycles_are : m.cycles ≡ cycles + i
+module _ (image costs : List ℕ) (entry count : ℕ) (s : IsStraight image entry count) (start : ℕ) where
+  -- a machine at a place of the code
+  pub record IsAt (i : ℕ) (m : Machine) : Type 0 where
+    pub pc : m.pc ≡ entry + 4 * i
+    pub spent : m.cycles ≡ start + code_cost image costs entry i
 
--- the step from a place of the code
-step_at : (code : List ℕ) (s : AreStraight code) (i cycles : ℕ) (m next : Machine) → i < length code → IsAt i cycles m → Step code m next → paid (effect_of m (instruction_of (slice_index code i))) ≡ Stepped next
-step_at code s i cycles m next within here step =
-    let fetch : fetched code m.pc ≡ Some (slice_index code i) = ap (fetched code) here.pc ∙ at_place code i within s.few in
-    subst (λ (w : Option ℕ). executed m w ≡ Stepped next) fetch step
+  -- the most that may be spent
+  abbrev pub most : ℕ
+  most = start + code_cost image costs entry count
 
--- what the step from a place of the code does to the stack
-transfer_at : (code : List ℕ) (s : AreStraight code) (i cycles : ℕ) (m : Machine) → i < length code → IsAt i cycles m → transfer_of code m ≡ transfer_from (Some (instruction_of (slice_index code i))) (instruction_at code ((m.pc + 4) % 2 ^ 32))
-transfer_at code s i cycles m within here =
-    let fetch : fetched code m.pc ≡ Some (slice_index code i) = ap (fetched code) here.pc ∙ at_place code i within s.few in
-    ap (λ (w : Option ℕ). transfer_from (option_map instruction_of w) (instruction_at code ((m.pc + 4) % 2 ^ 32))) fetch
+  spent_within : (i : ℕ) (m : Machine) → i ≤ count → IsAt i m → m.cycles ≤ most
+  spent_within i m h here = omega (arith, here.spent, cost_within image costs entry i count h)
 
--- from the delay instruction of the return: one step, and the frame is popped
-from_last : (code : List ℕ) (s : AreStraight code) (i cycles : ℕ) (m : Machine) (run : List Machine) → i + 1 ≡ length code → IsAt i cycles m → IsRunFrom code m run → EndsAtPop code Return 1 (m ∷ run) → IsRest code i cycles (m ∷ run)
-from_last code s i cycles m [] last here steps ends =
-    let spent = here.cycles_are in
-    rest_cons code i cycles m [] (λ _. here.pc) (omega arith) (rest_none code (i + 1) cycles (omega arith))
-from_last code s i cycles m (next ∷ rest) last here steps ends =
-    let spent = here.cycles_are in
-    let goes : GoesOn m next = computed m next _ (s.compute i (omega arith) (λ e. omega arith)) (step_at code s i cycles m next (omega arith) here steps.0) in
-    let later = goes.cycles in
-    let none : rest ≡ [] = ends.1.0 refl in
-    rest_cons code i cycles m (next ∷ rest) (λ _. here.pc) (omega arith)
-    (subst (λ (r : List Machine). IsRest code (i + 1) cycles (next ∷ r)) (sym none)
-    (rest_cons code (i + 1) cycles next [] (λ h. absurd (omega arith)) (omega arith) (rest_none code (i + 1 + 1) cycles (omega arith))))
+  -- the stack isn't empty before the last machine; the stack at the first is this one, and this transfer is due
+  abbrev pub KeepsFrame : Transfer → List Frame → List Machine → Type 0
+  KeepsFrame due frames run = (i : ℕ) → i + 1 < length run → frames_from image due frames run i ≢ []
 
--- from any place before that
-from_place : (code : List ℕ) (s : AreStraight code) (i cycles : ℕ) (m : Machine) (run : List Machine) → i + 2 ≤ length code → IsAt i cycles m → m.npc ≡ ORIGIN + 4 * (i + 1) → IsRunFrom code m run → EndsAtPop code Stay 1 (m ∷ run) → IsRest code i cycles (m ∷ run)
-from_place code s i cycles m [] before here behind steps ends =
-    let spent = here.cycles_are in
-    rest_cons code i cycles m [] (λ _. here.pc) (omega arith) (rest_none code (i + 1) cycles (omega arith))
-from_place code s i cycles m (next ∷ rest) before here behind steps ends =
-    let spent = here.cycles_are in
-    let few = s.few in
-    rest_cons code i cycles m (next ∷ rest) (λ _. here.pc) (omega arith)
-    (elim (eq-or-lt_of_le before) [
-      | inl leaves ↦
-          let place : length code - 2 ≡ i = omega arith in
-          let word : slice_index code i ≡ return_word = ap (slice_index code) (sym place) ∙ s.leave in
-          let is : instruction_of (slice_index code i) ≡ Jmpl 0 15 (Imm (pos 8)) = ap instruction_of word ∙ the_return in
-          let stepped = step_at code s i cycles m next (omega arith) here steps.0 in
-          let goes : GoesSomewhere m next = jumps m next 0 _ (subst (λ (x : Instr). paid (effect_of m x) ≡ Stepped next) is stepped) in
-          let transfer : transfer_of code m ≡ Return = transfer_at code s i cycles m (omega arith) here ∙ ap (λ (x : Instr). transfer_from (Some x) (instruction_at code ((m.pc + 4) % 2 ^ 32))) is in
-          from_last code s (i + 1) cycles next rest (omega arith)
-          (record { pc = goes.pc ∙ behind; cycles_are = goes.cycles ∙ (let c = spent in omega arith) })
-          steps.1 (subst (λ (t : Transfer). EndsAtPop code t 1 (next ∷ rest)) transfer ends.1)
-      | inr earlier ↦
-          let compute = s.compute i (omega arith) (λ e. omega arith) in
-          let goes : GoesOn m next = computed m next _ compute (step_at code s i cycles m next (omega arith) here steps.0) in
-          let transfer : transfer_of code m ≡ Stay = transfer_at code s i cycles m (omega arith) here ∙ stays _ _ compute in
-          from_place code s (i + 1) cycles next rest (omega arith)
-          (record { pc = goes.pc ∙ behind; cycles_are = goes.cycles ∙ (let c = spent in omega arith) })
-          (let n = goes.npc in omega arith)
-          steps.1 (subst (λ (t : Transfer). EndsAtPop code t 1 (next ∷ rest)) transfer ends.1)
-    ])
+  -- from the delay instruction of the return: one step, and the frame is popped
+  from_last : (i : ℕ) (m : Machine) (rest : List Machine) (frame : Frame) → i + 1 ≡ count → IsAt i m → RunsFrom image costs m rest → KeepsFrame Returns (frame ∷ []) (m ∷ rest) → IsRest entry count most i (m ∷ rest)
+  from_last i m [] frame last here steps ends =
+      rest_cons entry count most i m [] (λ _. here.pc) (spent_within i m (omega arith) here) (rest_none entry count most (i + 1) (omega arith))
+  from_last i m (next ∷ rest) frame last here steps ends =
+      let at : Passed image only_computes (entry + 4 * i) = passed image only_computes (entry + 4 * i) (s.compute i (omega arith) (λ e. omega arith)) in
+      let goes : GoesOn (cost_of costs (instruction_of at.this) false) m next = computed image costs steps.0.free m next (instruction_of at.this) at.holds (step_at image costs (entry + 4 * i) at.this m next steps.0 here.pc at.word) in
+      let cost = cost_of_word image costs (entry + 4 * i) at.this at.word in
+      let spent : next.cycles ≤ most = omega (arith, goes.cycles, here.spent, cost, code_cost_next image costs entry i, cost_within image costs entry (i + 1) count (omega arith)) in
+      let none : rest ≡ [] = go rest ends in
+      rest_cons entry count most i m (next ∷ rest) (λ _. here.pc) (spent_within i m (omega arith) here)
+      (subst (λ (r : List Machine). IsRest entry count most (i + 1) (next ∷ r)) (sym none)
+      (rest_cons entry count most (i + 1) next [] (λ h. absurd (omega arith)) spent (rest_none entry count most (i + 1 + 1) (omega arith)))) where
+        go : (r : List Machine) → KeepsFrame Returns (frame ∷ []) (m ∷ next ∷ r) → r ≡ []
+        go [] k = refl
+        go (x ∷ r) k = absurd (k (suc zero) (omega arith) refl)
 
--- every run of straight code is straight, and within the number of its words
-pub bounded : (code : List ℕ) → AreStraight code → BoundsRuns code (length code)
-bounded code s first run entry steps ends =
-    let long = s.long in
-    let rest = from_place code s 0 first.cycles first run long
-    (record { pc = entry.pc; cycles_are = omega arith }) entry.npc steps ends in
-    record { ends = omega (arith, rest.ends); places = λ i m w e. (let at : m.pc ≡ ORIGIN + 4 * (0 + i) = rest.places i m (omega arith) e in omega arith); spends = rest.spends }
+  -- from any place before that
+  pub from_place : (i : ℕ) (m : Machine) (rest : List Machine) (frame : Frame) → i + 2 ≤ count → IsAt i m → m.npc ≡ entry + 4 * (i + 1) → RunsFrom image costs m rest → KeepsFrame Stays (frame ∷ []) (m ∷ rest) → IsRest entry count most i (m ∷ rest)
+  from_place i m [] frame before here behind steps ends =
+      rest_cons entry count most i m [] (λ _. here.pc) (spent_within i m (omega arith) here) (rest_none entry count most (i + 1) (omega arith))
+  from_place i m (next ∷ rest) frame before here behind steps ends =
+      let within = s.within in
+      rest_cons entry count most i m (next ∷ rest) (λ _. here.pc) (spent_within i m (omega arith) here)
+      (elim (eq-or-lt_of_le before) [
+        | inl leaves ↦
+            let place : count - 2 ≡ i = omega arith in
+            let code : code_word image (entry + 4 * i) ≡ Some return_word = ap (λ (k : ℕ). code_word image (entry + 4 * k)) (sym place) ∙ s.leave in
+            let is : instruction_of return_word ≡ leaf_return = the_return in
+            let stepped = step_at image costs (entry + 4 * i) return_word m next steps.0 here.pc code in
+            let goes : GoesSomewhere (cost_of costs leaf_return false) m next = jumps costs leaf_return m next 0 _ (subst (λ (x : Instr). paid costs x (effect_of image steps.0.free m x) ≡ Stepped next) is stepped) in
+            let cost : cost_alone costs (code_instruction image (entry + 4 * i)) ≡ cost_of costs leaf_return false = cost_of_word image costs (entry + 4 * i) return_word code ∙ ap (λ (x : Instr). cost_of costs x false) is in
+            let transfer : transfer_of image m ≡ Returns = transfer_at image (entry + 4 * i) return_word m here.pc code ∙ ap (λ (x : Instr). transfer_from m (Some x) (instruction_at image ((m.pc + 4) % 2 ^ 32))) is in
+            from_last (i + 1) next rest frame (omega arith)
+            (record { pc = goes.pc ∙ behind; spent = goes.cycles ∙ (let c = here.spent in omega (arith, code_cost_next image costs entry i)) })
+            steps.1 (λ k h. subst (λ (t : Transfer). frames_from image t (frame ∷ []) (next ∷ rest) k ≢ []) transfer (ends (suc k) (omega arith)))
+        | inr earlier ↦
+            let at : Passed image only_computes (entry + 4 * i) = passed image only_computes (entry + 4 * i) (s.compute i (omega arith) (λ e. omega arith)) in
+            let goes : GoesOn (cost_of costs (instruction_of at.this) false) m next = computed image costs steps.0.free m next (instruction_of at.this) at.holds (step_at image costs (entry + 4 * i) at.this m next steps.0 here.pc at.word) in
+            let cost = cost_of_word image costs (entry + 4 * i) at.this at.word in
+            let transfer : transfer_of image m ≡ Stays = transfer_at image (entry + 4 * i) at.this m here.pc at.word ∙ stays m _ _ at.holds in
+            from_place (i + 1) next rest frame (omega arith)
+            (record { pc = goes.pc ∙ behind; spent = goes.cycles ∙ (let c = here.spent in omega (arith, code_cost_next image costs entry i)) })
+            (let n = goes.npc in omega arith)
+            steps.1 (λ k h. subst (λ (t : Transfer). frames_from image t (frame ∷ []) (next ∷ rest) k ≢ []) transfer (ends (suc k) (omega arith)))
+      ])

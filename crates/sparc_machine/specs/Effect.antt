@@ -17,16 +17,16 @@ use Rattle.sparc_decode.specs.declared.instruction.Second.{Second}
 use Rattle.sparc_decode.specs.declared.instruction.ShiftOp.{ShiftOp}
 use Rattle.sparc_decode.specs.declared.instruction.ShiftOp.TheVariants.{Sll, Srl, Sra}
 use Rattle.sparc_decode.specs.declared.instruction.StoreKind.{StoreKind}
-use Rattle.sparc_decode.specs.declared.instruction.StoreKind.TheVariants.{St, Stb, Sth, Std}
+use Rattle.sparc_decode.specs.declared.instruction.StoreKind.TheVariants.{Std}
 use Rattle.sparc_decode.specs.declared.instruction.TaggedOp.{TaggedOp}
 use Rattle.sparc_decode.specs.declared.instruction.TaggedOp.TheVariants.{Taddcc, Tsubcc, Taddcctv, Tsubcctv}
 use Rattle.sparc_machine.specs.Machine.{register_of, with_register, operand_of, going_to, advanced, charged}
 use Rattle.sparc_machine.specs.Memory.{load_size, store_size, float_size, atomic_size, is_float_store, constant_bytes, touches, read_number, extended, first_word, second_word}
-use Rattle.sparc_machine.specs.Step.{Outcome, Stepped, Stopped}
+use Rattle.sparc_machine.specs.Outcome.{Outcome, Stepped, Stopped}
 use Rattle.sparc_machine.specs.declared.free.Free.{Free}
 use Rattle.sparc_machine.specs.declared.machine.Machine.{Machine}
-use Rattle.sparc_machine.specs.declared.stepping.Trap.{Trap}
-use Rattle.sparc_machine.specs.declared.stepping.Trap.TheVariants.{Fetch, Unmodelled, Misaligned, ReadOnlyStore, Overflow, Underflow}
+use Rattle.sparc_machine.specs.declared.trap.Trap.{Trap}
+use Rattle.sparc_machine.specs.declared.trap.Trap.TheVariants.{Fetch, Unmodelled, Misaligned, ReadOnlyStore, Overflow, Underflow}
 use Rattle.word_ops.specs.Condition.{holds_of}
 use Rattle.word_ops.specs.Flags.{sum_flags_of, difference_flags_of, logic_flags_of}
 use Rattle.word_ops.specs.Word.{sum_of, difference_of, complement_of, shifted_left, shifted_right, shifted_right_signed}

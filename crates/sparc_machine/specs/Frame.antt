@@ -10,7 +10,7 @@ use Rattle.sparc_decode.specs.declared.instruction.Second.{Second}
 use Rattle.sparc_decode.specs.declared.instruction.Second.TheVariants.{Reg, Imm}
 use Rattle.sparc_machine.specs.Effect.{address_in, step_of}
 use Rattle.sparc_machine.specs.Machine.{IsMachine, register_of}
-use Rattle.sparc_machine.specs.Step.{Stepped}
+use Rattle.sparc_machine.specs.Outcome.{Stepped}
 use Rattle.sparc_machine.specs.Straight.{leaves_link}
 use Rattle.sparc_machine.specs.declared.free.Free.{Free}
 use Rattle.sparc_machine.specs.declared.machine.Machine.{Machine}

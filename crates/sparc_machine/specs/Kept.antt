@@ -1,7 +1,7 @@
 -- What every step keeps.
 use Rattle.std.specs.Prelude.{◌≡◌, ℕ, ◌%◌, ◌<◌, List, length}
 use Rattle.sparc_machine.specs.Effect.{step_of}
-use Rattle.sparc_machine.specs.Step.{Outcome, Stepped}
+use Rattle.sparc_machine.specs.Outcome.{Stepped}
 use Rattle.sparc_machine.specs.declared.free.Free.{Free}
 use Rattle.sparc_machine.specs.declared.machine.Machine.{Machine}
 

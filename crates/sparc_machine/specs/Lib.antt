@@ -3,7 +3,7 @@ pub mod Frame
 pub mod Kept
 pub mod Machine
 pub mod Memory
+pub mod Outcome
 pub mod Register
 pub mod Run
-pub mod Step
 pub mod Straight

@@ -1,6 +1,6 @@
 -- What the memory forms read and touch, over an image: a read of one read-only section gives its bytes, and any
 -- other read may give anything.
-use Rattle.std.specs.Prelude.{◌==◌, ℕ, ◌+◌, ◌-◌, ◌*◌, ◌%◌, ◌^◌, Bool, true, false, List, Option, Some, None, drop, nat_lt, if◌then◌else◌}
+use Rattle.std.specs.Prelude.{ℕ, ◌+◌, ◌-◌, ◌*◌, ◌%◌, ◌^◌, Bool, true, false, List, Option, Some, None, drop, nat_lt, if◌then◌else◌}
 use Rattle.std.specs.List.{list_any, range_with_len}
 use Rattle.bt_image.specs.Image.{bytes, is_readonly}
 use Rattle.byteorder.specs.Endian.{big_number}

@@ -1,10 +1,13 @@
 -- Straight code: instructions that only compute, and a return with its delay instruction at the end.
-use Rattle.std.specs.Prelude.{◌==◌, ◌≡◌, ◌≢◌, ℕ, ◌+◌, ◌-◌, ◌<◌, ◌≤◌, Bool, true, false, ◌&&◌, ◌||◌, nat_lt, if◌then◌else◌, List, length, slice_index, bit_and}
+use Rattle.std.specs.Prelude.{◌==◌, ◌≡◌, ◌≢◌, ℕ, zero, suc, ◌+◌, ◌-◌, ◌*◌, ◌^◌, ◌<◌, ◌≤◌, Bool, true, false, List, Option, Some, None, bit_and}
+use Rattle.std.specs.Option.{option_map}
+use Rattle.cycle_table.specs.Cycles.{cost_of}
 use Rattle.sparc_decode.specs.Instr.{instruction_of}
 use Rattle.sparc_decode.specs.Register.{mask_of, registers_written}
 use Rattle.sparc_decode.specs.declared.instruction.AluOp.TheVariants.{Add, Or}
 use Rattle.sparc_decode.specs.declared.instruction.Instr.{Instr}
 use Rattle.sparc_decode.specs.declared.instruction.Instr.TheVariants.{Sethi, Alu}
+use Rattle.sparc_machine.specs.Effect.{code_word}
 
 -- the word of the return of a leaf: a jump to eight bytes behind the call
 abbrev pub return_word : ℕ
@@ -21,16 +24,54 @@ only_computes _ = false
 abbrev pub leaves_link : Instr → Bool
 leaves_link instruction = bit_and (mask_of (registers_written instruction)) 0x8000 == 0
 
--- whether a word may stand in straight code with so many words from it on
-abbrev pub fits_of : ℕ → ℕ → Bool
-fits_of word left =
-    if left == 2 then word == return_word
-    else only_computes (instruction_of word) && (nat_lt left 2 || leaves_link (instruction_of word))
+-- the instruction of the word of code at an address
+abbrev pub code_instruction : List ℕ → ℕ → Option Instr
+code_instruction image a = option_map instruction_of (code_word image a)
 
--- the last word but one is the return, every other only computes, and none before the return writes r15
-pub record AreStraight (code : List ℕ) : Type 0 where
-  pub long : 2 ≤ length code
-  pub few : length code ≤ 131072
-  pub leave : slice_index code (length code - 2) ≡ return_word
-  pub compute : (i : ℕ) → i < length code → i + 2 ≢ length code → only_computes (instruction_of (slice_index code i)) ≡ true
-  pub link : (i : ℕ) → i + 2 < length code → leaves_link (instruction_of (slice_index code i)) ≡ true
+-- whether an instruction is there and passes a test
+abbrev pub passes : (Instr → Bool) → Option Instr → Bool
+passes test None = false
+passes test (Some instruction) = test instruction
+
+-- From the entry on there are so many words of code: the last but one is the return, every other only computes,
+-- and none before the return writes r15.
+pub record IsStraight (image : List ℕ) (entry count : ℕ) : Type 0 where
+  pub long : 2 ≤ count
+  pub few : count ≤ 131072
+  pub within : entry + 4 * count ≤ 2 ^ 32
+  pub leave : code_word image (entry + 4 * (count - 2)) ≡ Some return_word
+  pub compute : (i : ℕ) → i < count → i + 2 ≢ count → passes only_computes (code_instruction image (entry + 4 * i)) ≡ true
+  pub link : (i : ℕ) → i + 2 < count → passes leaves_link (code_instruction image (entry + 4 * i)) ≡ true
+
+-- what an instruction costs that annuls nothing, where there is one
+abbrev pub cost_alone : List ℕ → Option Instr → ℕ
+cost_alone costs None = 0
+cost_alone costs (Some instruction) = cost_of costs instruction false
+
+-- what so many words of code cost, from the entry on and each executed once
+abbrev pub code_cost : List ℕ → List ℕ → ℕ → ℕ → ℕ
+code_cost image costs entry zero = 0
+code_cost image costs entry (suc n) = code_cost image costs entry n + cost_alone costs (code_instruction image (entry + 4 * n))
+
+-- where code is straight from an entry on, the number of its words is one
+abbrev pub StraightCodeIsOne : Type 0
+StraightCodeIsOne = (image : List ℕ) (entry m n : ℕ) → IsStraight image entry m → IsStraight image entry n → m ≡ n
+
+-- the word at a place from the entry on stands past the address space, or its instruction doesn't compute alone, or
+-- it writes r15
+abbrev pub IsBlocked : List ℕ → ℕ → ℕ → Type 0
+IsBlocked image entry i =
+    entry + 4 * (i + 1) ≤ 2 ^ 32 → passes only_computes (code_instruction image (entry + 4 * i)) ≡ true
+    → passes leaves_link (code_instruction image (entry + 4 * i)) ≡ false
+
+-- so many words from the entry on only compute and leave r15
+pub record ArePassed (image : List ℕ) (entry count : ℕ) : Type 0 where
+  pub compute : (i : ℕ) → i < count → passes only_computes (code_instruction image (entry + 4 * i)) ≡ true
+  pub link : (i : ℕ) → i < count → passes leaves_link (code_instruction image (entry + 4 * i)) ≡ true
+
+-- the return stands at a place from the entry on, with a delay instruction that only computes, at this cost
+pub record Leaves (image costs : List ℕ) (entry i spent : ℕ) : Type 0 where
+  pub within : entry + 4 * (i + 2) ≤ 2 ^ 32
+  pub leave : code_word image (entry + 4 * i) ≡ Some return_word
+  pub delay : passes only_computes (code_instruction image (entry + 4 * (i + 1))) ≡ true
+  pub cost : spent ≡ cost_alone costs (code_instruction image (entry + 4 * i)) + cost_alone costs (code_instruction image (entry + 4 * (i + 1)))

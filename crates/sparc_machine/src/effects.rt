@@ -2,7 +2,7 @@
 ghost use Rattle.std.specs.Prelude.{◌≡◌, ◌≢◌, ◌<◌, ◌≤◌, ◌%◌, ◌^◌, false, IfErr, IfOk, OnErr, OnOk};
 ghost use Rattle.sparc_decode.specs.Instr.{InRange};
 ghost use Rattle.sparc_machine.specs.Effect.{Done, Trapped, effect_of, in_order, called, branch_effect, jumped, loaded, load_effect, write_trap, store_effect, atomic_effect, float_effect, code_word, step_of};
-ghost use Rattle.sparc_machine.specs.Step.{Stepped, Stopped};
+ghost use Rattle.sparc_machine.specs.Outcome.{Stepped, Stopped};
 
 use crate::{Free, Machine, Trap, executing, memory};
 use bt_image::Image;
@@ -357,7 +357,7 @@ fn perform(m: &mut Machine, image: &Image, free: &Free, instruction: Instr) -> R
 }
 
 /// The word of code at an address.
-fn code_word(image: &Image, address: u32) -> Option<u32>
+pub fn code_word(image: &Image, address: u32) -> Option<u32>
     ensures { result ≡ code_word image.now address }
 {
     if image.code(address) {

@@ -1,9 +1,7 @@
 //! Facts about the machine: each is the contract of a function that does nothing.
-ghost use Rattle.std.specs.Prelude.{ℕ, List, length};
 ghost use Rattle.sparc_machine.specs.Kept.{EachStepKeeps};
 ghost use Rattle.sparc_machine.specs.Register.{RegistersAreApart, GlobalsAreShared, NeighboursOverlap, WindowsComeBack};
-ghost use Rattle.sparc_machine.specs.Run.{BoundsRuns};
-ghost use Rattle.sparc_machine.specs.Straight.{AreStraight};
+ghost use Rattle.sparc_machine.specs.Straight.{StraightCodeIsOne};
 
 /// Two registers of one window never stand at one place.
 pub fn registers_are_apart()
@@ -31,8 +29,7 @@ pub fn each_step_keeps()
     ensures { EachStepKeeps }
 {}
 
-/// A run over straight code from its entry to the pop of its frame stands at the words one after the
-/// other, and spends at most one cycle for each.
-pub fn straight_runs_are_bounded()
-    ensures { (code : List ℕ) → AreStraight code → BoundsRuns code (length code) }
+/// Where the code from an entry on is straight, it is so with one number of words.
+pub fn straight_code_is_one()
+    ensures { StraightCodeIsOne }
 {}

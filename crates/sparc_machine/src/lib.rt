@@ -8,17 +8,17 @@ mod free;
 mod laws;
 mod machine;
 mod memory;
-mod stepping;
 mod straight;
 #[cfg(test)]
 mod tests;
+mod trap;
 
 pub use effects::step;
 pub use free::Free;
 pub use laws::{
     each_step_keeps, globals_are_shared, neighbours_overlap, registers_are_apart,
-    straight_runs_are_bounded, windows_come_back,
+    straight_code_is_one, windows_come_back,
 };
 pub use machine::{Machine, physical};
-pub use stepping::{ORIGIN, Trap, step_thin};
-pub use straight::is_straight;
+pub use straight::{Straight, straight_from};
+pub use trap::Trap;

@@ -1,7 +1,13 @@
-ghost use Rattle.std.specs.Prelude.{◌≡◌, ◌≤◌, ◌↔◌, length, IsTrue};
+ghost use Rattle.std.specs.Prelude.{◌≡◌, ◌<◌, ◌≤◌, ◌+◌, ◌*◌, ◌⊎◌, ◌^◌, ℕ, true, false, Some, IfSome, IfNone};
+ghost use Rattle.cycle_table.specs.Cycles.{cost_of};
+ghost use Rattle.sparc_decode.specs.Instr.{instruction_of};
+ghost use Rattle.sparc_machine.specs.Effect.{code_word};
 ghost use Rattle.sparc_machine.specs.Run.{BoundsRuns};
-ghost use Rattle.sparc_machine.specs.Straight.{AreStraight, only_computes, leaves_link, fits_of};
+ghost use Rattle.sparc_machine.specs.Straight.{IsStraight, only_computes, leaves_link, passes, code_instruction, cost_alone, code_cost, IsBlocked, ArePassed, Leaves};
 
+use crate::effects::code_word;
+use bt_image::Image;
+use cycle_table::Cycles;
 use sparc_decode::{AluOp, Instr, decode, writes};
 
 /// The word of the return of a leaf: a jump to eight bytes behind the call.
@@ -9,6 +15,18 @@ const RETURN: u32 = 0x81c3_e008;
 
 /// The set of the one register r15.
 const LINK: u32 = 0x8000;
+
+/// The most words of straight code before its return.
+const MOST_BEFORE: u32 = 131_070;
+
+/// The straight code of a subprogram.
+#[derive(Clone, Copy, Debug, PartialEq, Eq)]
+pub struct Straight {
+    /// How many words it has, its return and the delay instruction of that among them.
+    pub count: u32,
+    /// The cycles of its words, each executed once.
+    pub cycles: u64,
+}
 
 /// Whether an instruction is SETHI, or ADD or OR without condition codes.
 fn only_computes(instruction: &Instr) -> bool
@@ -37,38 +55,107 @@ fn leaves_link(instruction: &Instr) -> bool
     writes(instruction) & LINK == 0
 }
 
-/// Whether a word may stand in straight code with so many words from it on.
-fn fits(word: u32, left: usize) -> bool
-    ensures { result ≡ fits_of word left }
+/// The word of code at a place, counted in words from the entry.
+fn word_from(image: &Image, entry: u32, i: u32) -> Option<u32>
+    requires few { i ≤ 131072 }
+    ensures some { IfSome result (λ w. (code_word image.now (entry + 4 * i) ≡ Some w) × (entry + 4 * (i + 1) ≤ 2 ^ 32)) }
+    ensures none { IfNone result (entry + 4 * (i + 1) ≤ 2 ^ 32 → code_word image.now (entry + 4 * i) ≡ None) }
 {
-    if left == 2 {
-        return word == RETURN;
+    let a = u64::from(entry) + 4 * u64::from(i);
+    if a <= 0xffff_fffc {
+        code_word(image, a as u32)
+    } else {
+        None
     }
-    let instruction = decode(word);
-    only_computes(&instruction) && (left < 2 || leaves_link(&instruction))
 }
 
-/// Whether each word may stand at its place.
-fn all_fit(code: &[u32]) -> bool
-    requires long { 2 ≤ length code.now }
-    requires few { length code.now ≤ 131072 }
-    ensures { IsTrue result ↔ AreStraight code.now }
+/// The instruction at a place that only computes.
+fn computing(image: &Image, entry: u32, i: u32) -> Option<Instr>
+    requires few { i ≤ 131072 }
+    ensures some { IfSome result (λ x. (code_instruction image.now (entry + 4 * i) ≡ Some x) × ((only_computes x ≡ true) × (entry + 4 * (i + 1) ≤ 2 ^ 32))) }
+    ensures none { IfNone result (entry + 4 * (i + 1) ≤ 2 ^ 32 → passes only_computes (code_instruction image.now (entry + 4 * i)) ≡ false) }
 {
-    for (i, word) in code.iter().enumerate() {
-        if !fits(*word, code.len() - i) {
-            return false;
+    let word = word_from(image, entry, i)?;
+    let instruction = decode(word);
+    if only_computes(&instruction) {
+        Some(instruction)
+    } else {
+        None
+    }
+}
+
+/// The instruction at a place that only computes and leaves r15.
+fn passing(image: &Image, entry: u32, i: u32) -> Option<Instr>
+    requires few { i ≤ 131072 }
+    ensures some { IfSome result (λ x. (code_instruction image.now (entry + 4 * i) ≡ Some x) × ((only_computes x ≡ true) × (leaves_link x ≡ true))) }
+    ensures none { IfNone result (IsBlocked image.now entry i) }
+{
+    let instruction = computing(image, entry, i)?;
+    if leaves_link(&instruction) {
+        Some(instruction)
+    } else {
+        None
+    }
+}
+
+/// The words from the entry on that only compute and leave r15, as many as there are up to a limit.
+fn before_return(image: &Image, cycles: &Cycles, entry: u32, limit: u32) -> Straight
+    requires limit { limit ≤ 131070 }
+    ensures few { result.count ≤ limit }
+    ensures passed { ArePassed image.now entry result.count }
+    ensures cost { result.cycles ≡ code_cost image.now cycles.now entry result.count }
+    ensures most { result.cycles ≤ 2000000 * result.count }
+    ensures stops { (result.count ≡ limit) ⊎ IsBlocked image.now entry result.count }
+{
+    let mut spent = 0;
+    for count in 0..limit {
+        match passing(image, entry, count) {
+            Some(instruction) => spent += u64::from(cycles.cost(&instruction, false)),
+            None => {
+                return Straight {
+                    count,
+                    cycles: spent,
+                };
+            }
         }
     }
-    true
+    Straight {
+        count: limit,
+        cycles: spent,
+    }
 }
 
-/// Whether the code is straight: the last word but one is the return of a leaf, every other only computes,
-/// and none before the return writes r15. A run over such code spends at most one cycle for each word.
-pub fn is_straight(code: &[u32]) -> bool
-    requires long { 2 ≤ length code.now }
-    requires few { length code.now ≤ 131072 }
-    ensures straight { IsTrue result ↔ AreStraight code.now }
-    ensures bounds { IsTrue result → BoundsRuns code.now (length code.now) }
+/// The cycles of a return and its delay instruction, where they stand at a place.
+fn leaving(image: &Image, cycles: &Cycles, entry: u32, i: u32) -> Option<u64>
+    requires few { i ≤ 131070 }
+    ensures some { IfSome result (λ spent. Leaves image.now cycles.now entry i spent) }
+    ensures none { IfNone result ((spent : ℕ) → Leaves image.now cycles.now entry i spent → ⊥) }
+    ensures most { IfSome result (λ spent. spent ≤ 4000000) }
 {
-    all_fit(code)
+    let word = word_from(image, entry, i)?;
+    if word != RETURN {
+        return None;
+    }
+    let delay = computing(image, entry, i + 1)?;
+    let own = u64::from(cycles.cost(&decode(word), false));
+    Some(own + u64::from(cycles.cost(&delay, false)))
+}
+
+/// The straight code of the subprogram at an entry: its last word but one is the return of a leaf, every other
+/// only computes, and none before the return writes r15. None exactly where no straight code stands there, of at
+/// most 131,072 words. Every run of it, up to the pop of its frame, spends at most its cycles.
+pub fn straight_from(image: &Image, cycles: &Cycles, entry: u32) -> Option<Straight>
+    ensures found { IfSome result (λ code. IsStraight image.now entry code.count) }
+    ensures cost { IfSome result (λ code. code.cycles ≡ code_cost image.now cycles.now entry code.count) }
+    ensures bounds { IfSome result (λ code. BoundsRuns image.now cycles.now entry code.count code.cycles) }
+    ensures none { IfNone result ((count : ℕ) → IsStraight image.now entry count → ⊥) }
+{
+    let before = before_return(image, cycles, entry, MOST_BEFORE);
+    match leaving(image, cycles, entry, before.count) {
+        Some(spent) => Some(Straight {
+            count: before.count + 2,
+            cycles: before.cycles + spent,
+        }),
+        None => None,
+    }
 }

@@ -1,7 +1,7 @@
 //! Whole runs of small images, and a case for each trap.
 ghost use Rattle.std.specs.Prelude.{◌≡◌};
 
-use crate::{Free, Machine, Trap, physical, step};
+use crate::{Free, Machine, Straight, Trap, physical, step, straight_from};
 use bt_image::Image;
 use cycle_table::Cycles;
 use std::alloc::{AllocError, Global};
@@ -162,5 +162,80 @@ fn annuls_extends_and_traps(rt: HostRuntime) -> Result<(), Fail> {
         m.wim = wim;
         assert_eq!(rt; step(&mut m, &image, &cycles, FOUND), Err(trap));
     }
+    Ok(())
+}
+
+#[test]
+fn bounds_straight_code_alone(rt: HostRuntime) -> Result<(), Fail> {
+    let alloc = rt.alloc();
+    let cycles = Cycles::read(ONES).ok().ok_or("no table")?;
+    // four words at an entry, and how many words of straight code begin there, or 0 where none does
+    for (entry, code, count) in [
+        (0x0200_0000, [0x81c3_e008, 0x0100_0000, 0, 0], 2),
+        (0x0200_0008, [0, 0, 0x81c3_e008, 0x0100_0000], 2),
+        (
+            0x0200_0000,
+            [0x1100_0001, 0x9012_2005, 0x81c3_e008, 0x9e10_2000],
+            4,
+        ),
+        // r15 is written, condition codes are set, r31 is returned to, the delay instruction is missing or a branch
+        (
+            0x0200_0000,
+            [0x9e10_2000, 0x9012_2005, 0x81c3_e008, 0x0100_0000],
+            0,
+        ),
+        (
+            0x0200_0000,
+            [0x1100_0001, 0x90a2_2001, 0x81c3_e008, 0x0100_0000],
+            0,
+        ),
+        (
+            0x0200_0000,
+            [0x1100_0001, 0x9012_2005, 0x81c7_e008, 0x0100_0000],
+            0,
+        ),
+        (
+            0x0200_0000,
+            [0x1100_0001, 0x9012_2005, 0x1100_0001, 0x81c3_e008],
+            0,
+        ),
+        (
+            0x0200_0000,
+            [0x1100_0001, 0x9012_2005, 0x81c3_e008, 0x12bf_fffe],
+            0,
+        ),
+        (0x0200_0010, [0x81c3_e008, 0x0100_0000, 0, 0], 0),
+        (0x0200_0002, [0x81c3_e008, 0x0100_0000, 0, 0], 0),
+    ] {
+        let bytes = file(alloc, &code)?;
+        let image = Image::read(alloc, &bytes).ok().ok_or("no image")?;
+        let got = straight_from(&image, &cycles, entry);
+        let want = if count == 0 {
+            None
+        } else {
+            let spent = count as u64;
+            Some(Straight {
+                count,
+                cycles: spent,
+            })
+        };
+        assert_eq!(rt; got, want, "at {entry:08x} of {code:?}");
+    }
+    Ok(())
+}
+
+#[test]
+fn runs_the_first_leaf(rt: HostRuntime) -> Result<(), Fail> {
+    let alloc = rt.alloc();
+    let cycles = Cycles::read(ONES).ok().ok_or("no table")?;
+    let bytes = file(alloc, &[0x81c3_e008, 0x0100_0000])?;
+    let image = Image::read(alloc, &bytes).ok().ok_or("no image")?;
+    let mut m = entry();
+    for pc in [0x0200_0004, 0x0100_0008] {
+        assert!(rt; m.cwp < 8 && m.cycles < 100);
+        assert_eq!(rt; step(&mut m, &image, &cycles, FOUND), Ok(()));
+        assert_eq!(rt; m.pc, pc);
+    }
+    assert_eq!(rt; m.cycles, 2);
     Ok(())
 }

@@ -1,0 +1,83 @@
+//! The files of a call, read and checked.
+ghost use Rattle.std.specs.Prelude.{◌≡◌, ◌<◌, ℕ, length, IfOk, IfSome, IsErrOf};
+ghost use Rattle.bt_base.specs.Shelf.{TellsTheSame, NoneFalls, Rose};
+ghost use Rattle.bt_image.specs.declared.refusal.ImageRefusal.{ImageRefusal};
+ghost use Rattle.cycle_table.specs.declared.refusal.CycleRefusal.{CycleRefusal};
+ghost use Rattle.bt_command.specs.Call.{HasFile, HasImage, HasCosts, IsNoImage, IsNoTable};
+
+use bt_base::{ReadRefusal, Shelf, read_all};
+use bt_image::{Image, ImageRefusal};
+use cycle_table::{CycleRefusal, Cycles};
+use std::alloc::Global;
+
+/// The most bytes of an image: 16 MiB.
+pub const IMAGE_LIMIT: u64 = 16_777_216;
+
+/// The most bytes of a table of cycles: 1 MiB.
+pub const TABLE_LIMIT: u64 = 1_048_576;
+
+/// Why a file wasn't accepted; `R` says why its bytes are refused.
+#[derive(Clone, Copy, Debug, PartialEq, Eq)]
+pub enum NoFile<R> {
+    /// A read failed.
+    Fault,
+    /// The file is longer than its limit.
+    TooLong,
+    /// The bytes are refused.
+    Refused(R),
+    /// Memory was wanting.
+    Want,
+}
+
+/// The image under a name.
+pub fn image_from<F: Shelf>(
+    alloc: Global,
+    shelf: &mut F,
+    name: &str,
+) -> Result<Image, NoFile<ImageRefusal>>
+    ensures same { TellsTheSame (F.told shelf.old) (F.told shelf.new) }
+    ensures counts { NoneFalls (F.faults shelf.old) (F.faults shelf.new) }
+    ensures accepted { IfOk result (λ image. HasImage (F.told shelf.old name.now) image) }
+    ensures fault { IsErrOf result NoFile.Fault → Rose (F.faults shelf.old name.now) (F.faults shelf.new name.now) }
+    ensures too_long { IsErrOf result NoFile.TooLong → IfSome (F.told shelf.old name.now) (λ bytes. IMAGE_LIMIT < length bytes) }
+    ensures refused { (refusal : ImageRefusal) → IsErrOf result (NoFile.Refused refusal) →
+        IsNoImage (F.told shelf.old name.now) refusal }
+{
+    let bytes = match read_all(alloc, shelf, name, IMAGE_LIMIT) {
+        Ok(bytes) => bytes,
+        Err(ReadRefusal::Fault) => return Err(NoFile::Fault),
+        Err(ReadRefusal::TooLong { .. }) => return Err(NoFile::TooLong),
+        Err(ReadRefusal::Want) => return Err(NoFile::Want),
+    };
+    match Image::read(alloc, &bytes) {
+        Ok(image) => Ok(image),
+        Err(ImageRefusal::Want) => Err(NoFile::Want),
+        Err(refusal) => Err(NoFile::Refused(refusal)),
+    }
+}
+
+/// The table of cycles under a name.
+pub fn cycles_from<F: Shelf>(
+    alloc: Global,
+    shelf: &mut F,
+    name: &str,
+) -> Result<Cycles, NoFile<CycleRefusal>>
+    ensures same { TellsTheSame (F.told shelf.old) (F.told shelf.new) }
+    ensures counts { NoneFalls (F.faults shelf.old) (F.faults shelf.new) }
+    ensures accepted { IfOk result (λ cycles. HasCosts (F.told shelf.old name.now) cycles) }
+    ensures fault { IsErrOf result NoFile.Fault → Rose (F.faults shelf.old name.now) (F.faults shelf.new name.now) }
+    ensures too_long { IsErrOf result NoFile.TooLong → IfSome (F.told shelf.old name.now) (λ bytes. TABLE_LIMIT < length bytes) }
+    ensures refused { (refusal : CycleRefusal) → IsErrOf result (NoFile.Refused refusal) →
+        IsNoTable (F.told shelf.old name.now) refusal }
+{
+    let bytes = match read_all(alloc, shelf, name, TABLE_LIMIT) {
+        Ok(bytes) => bytes,
+        Err(ReadRefusal::Fault) => return Err(NoFile::Fault),
+        Err(ReadRefusal::TooLong { .. }) => return Err(NoFile::TooLong),
+        Err(ReadRefusal::Want) => return Err(NoFile::Want),
+    };
+    match Cycles::read(&bytes) {
+        Ok(cycles) => Ok(cycles),
+        Err(refusal) => Err(NoFile::Refused(refusal)),
+    }
+}
