@@ -1,16 +1,15 @@
 -- The extents of functions.
-use Rattle.std.proofs.Common.{◌≡◌, ℕ, ◌+◌, ◌-◌, ◌%◌, ◌<◌, ◌≤◌, ◌⊎◌, inl, inr, Bool, true, false, ◌&&◌, List, length, get_or, All, Contains, Option, Some, None, refl, sym, ◌∙◌, ap, subst, arith, rules, ⊎_elim}
+use Rattle.std.proofs.Common.{◌≡◌, ℕ, ◌+◌, ◌-◌, ◌%◌, ◌<◌, ◌≤◌, ◌⊎◌, inl, inr, Bool, true, false, ◌&&◌, List, length, get_or, Contains, Option, Some, None, refl, sym, ◌∙◌, ap, subst, arith, ⊎_elim}
 use Rattle.std.specs.Prelude.{◌==◌, is_some}
 use Rattle.std.specs.Option.{option_map}
 use Rattle.std.specs.List.Sorted.{IsNonDecreasing}
-use Rattle.std.proofs.lemmas.Bool.{cases_lt, cases_eq, false≢true}
-use Rattle.std.proofs.lemmas.Bool.Decides.{nat_tests}
+use Rattle.std.proofs.lemmas.Bool.{cases_lt, false≢true}
 use Rattle.std.proofs.lemmas.List.{get_or_default}
 use Rattle.bt_image.specs.Extent.{IsExtent, IsStart, IsEnd, Rise}
 use Rattle.bt_image.specs.File.{section_count}
-use Rattle.bt_image.specs.Image.{held, holder, is_code, place_in}
+use Rattle.bt_image.specs.Image.{held, holder, is_code}
 use Rattle.bt_image.specs.Loaded.{AreLoaded, IsHolder}
-use Rattle.bt_image.specs.Section.{holds, is_code_section}
+use Rattle.bt_image.specs.Section.{is_code_section}
 use Rattle.bt_image.specs.Symbol.{functions}
 use Rattle.bt_image.specs.declared.section.Section.{Section}
 use Rattle.bt_image.specs.declared.section.Access.TheVariants.{Code}

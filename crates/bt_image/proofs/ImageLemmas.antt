@@ -3,13 +3,16 @@ use Rattle.std.proofs.Common.{◌≡◌, ℕ, List, length, Option, Some, None, 
 use Rattle.std.specs.BTreeMap.{BTreeMap, keys}
 use Rattle.std.specs.Option.{option_or}
 use Rattle.bt_image.specs.Checked.{IsChecked, IsImage}
+use Rattle.bt_image.specs.Entry.{AreEntries, AreInOrder}
 use Rattle.bt_image.specs.Extent.{Rise}
 use Rattle.bt_image.specs.File.{section_count}
+use Rattle.bt_image.specs.Label.{AreExactly, IsLabel, IsTaken}
 use Rattle.bt_image.specs.Loaded.{AreLoaded}
 use Rattle.bt_image.specs.Names.{AreNames}
 use Rattle.bt_image.specs.NextCode.{IsCodeTable}
 use Rattle.bt_image.specs.Refusal.{IsRefusal, checked_refusal, first_refusal, limits_refusal, overlap_refusal, symbols_refusal}
 use Rattle.bt_image.specs.Symbol.{functions, symbol_count, symbol_strings}
+use Rattle.bt_image.specs.declared.entry.Entry.{Entry}
 use Rattle.bt_image.specs.declared.names.Name.{Name}
 use Rattle.bt_image.specs.declared.refusal.ImageRefusal.{ImageRefusal}
 use Rattle.bt_image.specs.declared.refusal.ImageRefusal.TheVariants.{Want}
@@ -51,10 +54,18 @@ unfolding first_refusal
 refused_none file c o s l = rw (c, o, s, l) refl
 
 -- the tables of an image, over a copy of the bytes
-pub is_image : (file copy : List ℕ) (number : Option ℕ) (loaded code : List Section) (addresses : List ℕ) (names : BTreeMap ℕ Name)
+pub is_image : (file copy : List ℕ) (number : Option ℕ) (loaded code : List Section) (addresses : List ℕ) (names : BTreeMap ℕ Name) (entries : List Entry) (labels taken : List ℕ)
     → IsChecked file number → symbols_refusal file ≡ None → AreLoaded file (section_count file) loaded → IsCodeTable loaded (length loaded) code
-    → addresses ≡ keys names → Rise addresses → AreNames file (symbol_strings file) (symbol_count file) names → copy ≡ file → IsImage copy number loaded code addresses names
+    → addresses ≡ keys names → Rise addresses → AreNames file (symbol_strings file) (symbol_count file) names
+    → AreEntries file (symbol_count file) entries → AreInOrder (symbol_strings file) entries
+    → AreExactly (IsLabel file) labels → AreExactly (IsTaken file) taken → copy ≡ file → IsImage copy number loaded code addresses names entries labels taken
 unfolding functions
-is_image file copy number loaded code addresses names checked sound table instructions entries rise are same =
-    subst (λ f. IsImage f number loaded code addresses names) (sym same)
-    (record { checked = checked; symbols = sound; memory = table; instructions = instructions; entries = entries ∙ are.keys; rise = rise; naming = are })
+is_image file copy number loaded code addresses names entries labels taken checked sound table instructions starts rise are symbols_of_names order targets pointers same =
+    subst (λ f. IsImage f number loaded code addresses names entries labels taken) (sym same)
+    (record { checked = checked; symbols = sound; memory = table; instructions = instructions; starts = starts ∙ are.keys; rise = rise; naming = are; symbols_of_names = symbols_of_names; order = order; targets = targets; pointers = pointers })
+
+-- the addresses of the functions are the keys of their names
+pub addresses_are : (file addresses : List ℕ) (names : BTreeMap ℕ Name) → addresses ≡ keys names → AreNames file (symbol_strings file) (symbol_count file) names
+    → addresses ≡ functions file
+unfolding functions
+addresses_are file addresses names same are = same ∙ are.keys

@@ -1,10 +1,14 @@
+pub mod EntryLemmas
 pub mod ExtentLemmas
 pub mod ImageLemmas
+pub mod LabelLemmas
 pub mod LeastLemmas
 pub mod LimitLemmas
 pub mod LoadedLemmas
 pub mod LoadingLemmas
 pub mod NameLemmas
 pub mod NextLemmas
+pub mod RisingLemmas
 pub mod StringLemmas
 pub mod SymbolLemmas
+pub mod ValueLemmas

@@ -1,5 +1,5 @@
 -- The section in which bytes stand, found in a table of the loaded sections.
-use Rattle.std.proofs.Common.{◌≡◌, ℕ, ◌+◌, ◌<◌, ◌≤◌, ◌⊎◌, inl, inr, Bool, true, false, ◌&&◌, ◌||◌, not, cond, take, drop, List, length, get_or, All, Contains, Option, Some, None, MatchOption, refl, sym, ◌∙◌, ap, subst, arith, rules, ⊎_elim, if◌then◌else◌}
+use Rattle.std.proofs.Common.{◌≡◌, ℕ, ◌+◌, ◌<◌, ◌≤◌, ◌⊎◌, inl, inr, Bool, true, false, ◌&&◌, ◌||◌, not, take, drop, List, length, get_or, Contains, Option, Some, None, refl, sym, ◌∙◌, ap, subst, arith, ⊎_elim, if◌then◌else◌}
 use Rattle.std.specs.List.Sorted.{IsNonDecreasingBy}
 use Rattle.std.specs.Option.{option_map}
 use Rattle.std.proofs.lemmas.Bool.{cases_lt, cases_eq, false≢true}
@@ -9,7 +9,7 @@ use Rattle.bt_image.specs.File.{section_count}
 use Rattle.bt_image.specs.Image.{holder, holding, held, place_in}
 use Rattle.bt_image.specs.Least.{first_of}
 use Rattle.bt_image.specs.Loaded.{AreApart, AreLoaded, IsWhole, IsHolder}
-use Rattle.bt_image.specs.Section.{section_at, is_loaded, is_writable, is_executable, is_read_only_section, is_code_section, holds, test_of}
+use Rattle.bt_image.specs.Section.{section_at, is_loaded, is_writable, is_executable, holds, test_of}
 use Rattle.bt_image.specs.declared.section.Access.{Access}
 use Rattle.bt_image.specs.declared.section.Access.TheVariants.{Loaded, ReadOnly, Code}
 use Rattle.bt_image.specs.declared.section.Section.{Section}

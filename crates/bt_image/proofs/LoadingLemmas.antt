@@ -1,5 +1,5 @@
 -- The making of a table of the loaded sections.
-use Rattle.std.proofs.Common.{◌≡◌, ℕ, ◌+◌, ◌-◌, ◌<◌, ◌≤◌, ◌^◌, ◌%◌, ◌⊎◌, inl, inr, Bool, true, false, not, ◌&&◌, ◌||◌, cond, List, [], length, get_or, All, Contains, Option, Some, None, IsSome, nat_lt, refl, sym, ◌∙◌, ap, subst, arith, rules, ⊎_elim}
+use Rattle.std.proofs.Common.{◌≡◌, ℕ, ◌+◌, ◌-◌, ◌<◌, ◌≤◌, ◌%◌, ◌⊎◌, inl, inr, Bool, true, false, not, ◌&&◌, ◌||◌, cond, List, [], length, get_or, All, Contains, Option, Some, None, IsSome, nat_lt, refl, sym, ◌∙◌, ap, subst, arith, ⊎_elim}
 use Rattle.std.specs.Prelude.{◌==◌}
 use Rattle.std.specs.List.{insert}
 use Rattle.std.proofs.lemmas.Bool.{cases_lt, cases_eq, false≢true}
@@ -9,9 +9,9 @@ use Rattle.std.proofs.lemmas.List.Edits.{length-insert, get_or-insert_below, get
 use Rattle.bt_image.specs.File.{section_count}
 use Rattle.bt_image.specs.Least.{first_of}
 use Rattle.bt_image.specs.Loaded.{AreApart, AreLoaded, IsWhole, SharesWith, IsPlaceFor, EndBelow, BeginAbove, LastEndsAbove, NextBeginsBelow}
-use Rattle.bt_image.specs.Refusal.{section_fault, fault_of, serves_symbols, is_outside, sections_refusal, overlap, overlap_refusal}
+use Rattle.bt_image.specs.Refusal.{section_fault, fault_of, is_outside, sections_refusal, overlap, overlap_refusal}
 use Rattle.bt_image.specs.Section.{section_at, is_loaded, is_code_section, is_compressed, share, symbol_table}
-use Rattle.bt_image.specs.declared.refusal.ImageRefusal.TheVariants.{Compressed, SectionOutside, SectionOverlap, Alignment}
+use Rattle.bt_image.specs.declared.refusal.ImageRefusal.TheVariants.{SectionOverlap}
 use Rattle.bt_image.specs.declared.section.Section.{Section}
 use Rattle.bt_image.proofs.LeastLemmas.{none_below, first_of-none}
 

@@ -1,14 +1,14 @@
 -- The names of functions, as more symbols are seen.
-use Rattle.std.proofs.Common.{◌≡◌, ◌≢◌, ℕ, suc, ◌+◌, ◌<◌, ◌≤◌, Bool, true, false, ◌&&◌, ◌||◌, not, cond, List, [], ◌∷◌, length, map, Option, Some, None, refl, sym, ◌∙◌, ap, subst, eq-eqb, add-one, arith, rules, ⊎_elim}
+use Rattle.std.proofs.Common.{◌≡◌, ◌≢◌, ℕ, ◌+◌, ◌≤◌, Bool, true, false, not, cond, List, [], ◌∷◌, length, map, Option, Some, None, refl, sym, ◌∙◌, ap, subst, eq-eqb, add-one, arith, ⊎_elim}
 use Rattle.std.specs.Prelude.{◌==◌, nat_lt, IfSome, if◌then◌else◌}
 use Rattle.std.specs.Map.{lookup}
-use Rattle.std.specs.BTreeMap.{BTreeMap, insert_entry, get, keys, is_at, UpdatesBy, Updates}
-use Rattle.std.specs.Ordering.{nat_cmp, is_eq}
+use Rattle.std.specs.BTreeMap.{BTreeMap, insert_entry, get, is_at}
+use Rattle.std.specs.Ordering.{nat_cmp}
 use Rattle.std.proofs.lemmas.Bool.{cases_lt, cases_eq, false≢true}
 use Rattle.std.proofs.lemmas.Bool.Decides.{nat_tests}
 use Rattle.bt_image.specs.Least.{least_of, lesser}
-use Rattle.bt_image.specs.Names.{AreNames, IsBest, IsNoted, better, is_chosen, name_from, text}
-use Rattle.bt_image.specs.Symbol.{functions_among, is_before, is_function_symbol, is_typed, is_untyped, name_at, name_for, symbol_at, symbol_name, symbol_strings, with_number}
+use Rattle.bt_image.specs.Names.{AreNames, IsBest, IsNoted, better, name_from}
+use Rattle.bt_image.specs.Symbol.{functions_among, is_before, is_function_symbol, is_typed, is_untyped, name_at, name_for, symbol_at, symbol_strings, with_number}
 use Rattle.bt_image.specs.declared.names.Name.{Name}
 use Rattle.bt_image.specs.declared.symbol.Symbol.{Symbol}
 

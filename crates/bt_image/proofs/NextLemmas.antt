@@ -1,10 +1,10 @@
 -- The next code address.
-use Rattle.std.proofs.Common.{◌≡◌, ℕ, ◌+◌, ◌-◌, ◌*◌, ◌/◌, ◌%◌, ◌<◌, ◌≤◌, ◌⊎◌, inl, inr, Bool, true, false, ◌&&◌, List, [], ◌∷◌, ◌++◌, length, get_or, All, Contains, Option, Some, None, refl, sym, ◌∙◌, ap, subst, eq-eqb, arith, rules, ⊎_elim}
+use Rattle.std.proofs.Common.{◌≡◌, ℕ, ◌+◌, ◌-◌, ◌*◌, ◌/◌, ◌%◌, ◌<◌, ◌≤◌, ◌⊎◌, inl, inr, Bool, true, false, ◌&&◌, List, [], ◌∷◌, ◌++◌, length, get_or, All, Contains, Option, Some, None, refl, sym, ◌∙◌, ap, subst, eq-eqb, arith, ⊎_elim}
 use Rattle.std.specs.Prelude.{◌==◌, is_some, nat_le}
 use Rattle.std.proofs.lemmas.Bool.{cases_lt, cases_eq, false≢true}
 use Rattle.std.proofs.lemmas.Bool.Decides.{nat_tests}
 use Rattle.std.proofs.lemmas.List.{get_or_default, get_or_append_left, get_or_push, length_push}
-use Rattle.bt_image.specs.Loaded.{AreApart, AreLoaded, IsHolder, IsWhole}
+use Rattle.bt_image.specs.Loaded.{AreApart, AreLoaded}
 use Rattle.bt_image.specs.NextCode.{IsCodeTable, HasWord, HasNone, IsNextWord, HasNoWordFrom, LastReaches, NoneReaches}
 use Rattle.bt_image.specs.File.{section_count}
 use Rattle.bt_image.specs.Image.{held, holder, holding, is_code, IsNextCode, HasNoCodeFrom}

@@ -1,5 +1,5 @@
 -- The symbol table of a file that passes the checks.
-use Rattle.std.proofs.Common.{◌≡◌, ℕ, ◌+◌, ◌*◌, ◌%◌, ◌<◌, ◌≤◌, Bool, true, false, ◌&&◌, ◌||◌, not, cond, List, length, Option, Some, None, refl, sym, ◌∙◌, ap, subst, eq-eqb, arith, rules, ⊎_elim}
+use Rattle.std.proofs.Common.{◌≡◌, ℕ, ◌+◌, ◌%◌, ◌<◌, ◌≤◌, Bool, true, false, ◌&&◌, ◌||◌, not, cond, List, length, Option, Some, None, refl, sym, ◌∙◌, ap, eq-eqb, arith, ⊎_elim}
 use Rattle.std.specs.Prelude.{◌==◌, nat_lt, is_some, IfSome}
 use Rattle.std.specs.List.{list_any}
 use Rattle.std.proofs.lemmas.Bool.{false≢true, cases_lt}
@@ -10,7 +10,6 @@ use Rattle.bt_image.specs.Refusal.{section_fault, fault_of, serves_symbols, is_o
 use Rattle.bt_image.specs.Least.{first_passing, where_true}
 use Rattle.bt_image.specs.Section.{section_at, is_loaded, is_compressed, symbol_table}
 use Rattle.bt_image.specs.Symbol.{HasSymbols, is_ended, names_code, symbol_at, symbol_count, symbol_strings, symbols_start}
-use Rattle.bt_image.specs.declared.section.Section.{Section}
 use Rattle.bt_image.proofs.LeastLemmas.{none_below}
 use Rattle.bt_image.proofs.LoadingLemmas.{and_false, cond_none, or_false}
 
@@ -60,7 +59,7 @@ sound_from_none : {X : Type 0} (b : Bool) (x : X) → cond b None (Some x) ≡ N
 sound_from_none true x h = refl
 sound_from_none false x h = absurd cc
 
-and_both : (b c : Bool) → (b && c) ≡ true → (b ≡ true) × (c ≡ true)
+pub and_both : (b c : Bool) → (b && c) ≡ true → (b ≡ true) × (c ≡ true)
 and_both true c h = (refl, h)
 and_both false c h = absurd (false≢true h)
 

@@ -1,5 +1,5 @@
 -- The extents of functions, and the next code address.
-use Rattle.std.specs.Prelude.{◌≡◌, ℕ, ◌+◌, ◌-◌, ◌<◌, ◌≤◌, ◌⊎◌, List, length, Contains, slice_index_or, Option, Some}
+use Rattle.std.specs.Prelude.{◌≡◌, ℕ, ◌+◌, ◌-◌, ◌<◌, ◌≤◌, ◌⊎◌, List, length, Contains, slice_index_or, Some}
 use Rattle.bt_image.specs.Image.{holder}
 use Rattle.bt_image.specs.Section.{is_code_section}
 use Rattle.bt_image.specs.Symbol.{functions}

@@ -1,7 +1,9 @@
 pub mod Checked
+pub mod Entry
 pub mod Extent
 pub mod File
 pub mod Image
+pub mod Label
 pub mod Least
 pub mod Loaded
 pub mod Names
@@ -9,3 +11,4 @@ pub mod NextCode
 pub mod Refusal
 pub mod Section
 pub mod Symbol
+pub mod Values

@@ -1,5 +1,5 @@
 -- Tables of the loaded sections, as they lie in memory.
-use Rattle.std.specs.Prelude.{◌≡◌, ℕ, ◌+◌, ◌-◌, ◌%◌, ◌^◌, ◌<◌, ◌≤◌, true, false, List, length, All, Contains, slice_index_or, Option, Some, None, MatchOption}
+use Rattle.std.specs.Prelude.{◌≡◌, ℕ, ◌+◌, ◌-◌, ◌%◌, ◌^◌, ◌<◌, ◌≤◌, true, false, List, length, All, Contains, slice_index_or, Option, MatchOption}
 use Rattle.bt_image.specs.Section.{section_at, is_loaded, is_code_section, holds, share}
 use Rattle.bt_image.specs.declared.section.Section.{Section}
 

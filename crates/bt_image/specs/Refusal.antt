@@ -7,7 +7,6 @@ use Rattle.bt_image.specs.Least.{first_of, first_passing}
 use Rattle.bt_image.specs.Section.{section_at, is_loaded, is_code_section, is_compressed, share, symbol_table}
 use Rattle.bt_image.specs.Symbol.{symbol_at, names_code, is_ended, symbol_strings, symbol_count, functions}
 use Rattle.bt_image.specs.declared.section.Section.{Section}
-use Rattle.bt_image.specs.declared.refusal.Counted.{Counted}
 use Rattle.bt_image.specs.declared.refusal.Counted.TheVariants.{Sections, Symbols, Functions}
 use Rattle.bt_image.specs.declared.refusal.ImageRefusal.{ImageRefusal}
 use Rattle.bt_image.specs.declared.refusal.ImageRefusal.TheVariants.{Short, Magic, Class, Order, Kind, Machine, HeaderSize, SectionOutside, SectionOverlap, Alignment, SymbolTable, Limit, Compressed, Want}

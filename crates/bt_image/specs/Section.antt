@@ -1,5 +1,5 @@
 -- The sections of an object file, and what their types and flags mean (System V ABI, "Object Files", "Sections").
-use Rattle.std.specs.Prelude.{◌==◌, ℕ, ◌+◌, ◌*◌, ◌/◌, ◌%◌, ◌^◌, Bool, not, ◌&&◌, ◌||◌, nat_lt, nat_le, List, take, drop, Option, Some, None}
+use Rattle.std.specs.Prelude.{◌==◌, ℕ, ◌+◌, ◌*◌, ◌/◌, ◌%◌, ◌^◌, Bool, not, ◌&&◌, ◌||◌, nat_lt, nat_le, List, take, drop, Option}
 use Rattle.bt_image.specs.File.{word_field, section_headers, section_count}
 use Rattle.bt_image.specs.Least.{first_passing}
 use Rattle.bt_image.specs.declared.section.Access.{Access}

@@ -1,5 +1,5 @@
 -- The symbols of an object file, and the functions that they name (System V ABI, "Object Files", "Symbol Table").
-use Rattle.std.specs.Prelude.{◌==◌, ◌≡◌, ℕ, zero, suc, ◌+◌, ◌*◌, ◌/◌, ◌%◌, ◌<◌, ◌≤◌, Bool, true, false, not, ◌&&◌, ◌||◌, nat_lt, List, [], ◌∷◌, drop, length, bytes_eq, Option, Some, None, if◌then◌else◌}
+use Rattle.std.specs.Prelude.{◌==◌, ◌≡◌, ℕ, zero, suc, ◌+◌, ◌*◌, ◌/◌, ◌%◌, ◌<◌, ◌≤◌, Bool, true, not, ◌&&◌, ◌||◌, nat_lt, List, [], ◌∷◌, drop, length, bytes_eq, Option, Some, None, if◌then◌else◌}
 use Rattle.std.specs.List.{before_first, list_any}
 use Rattle.std.specs.Option.{option_or, option_map, unwrap_or}
 use Rattle.std.specs.Cmp.Lexicographic.{slice_cmp}

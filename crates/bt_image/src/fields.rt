@@ -2,7 +2,7 @@
 ghost use Rattle.std.specs.Prelude.{◌≡◌, ◌+◌, ◌≤◌, ◌<◌, length};
 ghost use Rattle.bt_image.specs.File.{byte_field, half_field, word_field};
 
-use byteorder::{BigEndian, ByteOrder};
+use bt_base::{be16, be32};
 
 /// The byte at a place.
 pub fn byte_field(file: &[u8], at: usize) -> u8
@@ -18,7 +18,7 @@ pub fn half_field(file: &[u8], at: usize) -> u16
     requires { at + 2 ≤ length file.now }
     ensures { result ≡ half_field file.now at }
 {
-    BigEndian::read_u16(&file[at..])
+    be16(file, at).unwrap()
 }
 
 /// The word of four bytes at a place.
@@ -27,5 +27,5 @@ pub fn word_field(file: &[u8], at: usize) -> u32
     requires { at + 4 ≤ length file.now }
     ensures { result ≡ word_field file.now at }
 {
-    BigEndian::read_u32(&file[at..])
+    be32(file, at).unwrap()
 }

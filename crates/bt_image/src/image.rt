@@ -1,15 +1,17 @@
-ghost use Rattle.std.specs.Prelude.{◌≡◌, ◌≤◌, length, IfOk, IfSome, MatchOption, true};
+ghost use Rattle.std.specs.Prelude.{◌≡◌, ◌≤◌, ℕ, length, All, Contains, IfOk, IfSome, MatchOption, true};
 ghost use Rattle.std.specs.Option.{option_copied};
 ghost use Rattle.bt_image.specs.Checked.{IsChecked};
 ghost use Rattle.bt_image.specs.Extent.{IsExtent, Rise};
 ghost use Rattle.bt_image.specs.Image.{word, bytes, is_readonly, is_code, IsNextCode, HasNoCodeFrom};
+ghost use Rattle.bt_image.specs.Label.{IsLabelWithin, IsTaken};
 ghost use Rattle.bt_image.specs.Refusal.{IsCheck, IsStep, checked_refusal, first_refusal};
 ghost use Rattle.bt_image.specs.Symbol.{functions, name_of, entry_of};
 
-use crate::entry::entry_in;
+use crate::entry::{Entry, entries, entry_in};
 use crate::extent::extent_in;
 use crate::functions::{addresses, limited_names, name_in};
 use crate::headers::{check_header, check_headers, symbol_table};
+use crate::labels::{labels, labels_in, taken_functions};
 use crate::loaded::{code_in, held, word_in};
 use crate::loading::load;
 use crate::names::Name;
@@ -37,6 +39,12 @@ pub struct Image {
     addresses: Vec<u32>,
     /// The name of each function.
     names: BTreeMap<u32, Name>,
+    /// The function symbols, in the order of their names.
+    entries: Vec<Entry>,
+    /// The labels, rising.
+    labels: Vec<u32>,
+    /// The functions whose entries stand in words, rising.
+    taken: Vec<u32>,
 }
 
 impl Model for Image {
@@ -47,7 +55,7 @@ impl Model for Image {
 
     ghost view = { λ i. i.bytes.items };
 
-    ghost invariant = { λ i. IsImage i.bytes.items i.number i.loaded.items i.code.items i.addresses.items i.names };
+    ghost invariant = { λ i. IsImage i.bytes.items i.number i.loaded.items i.code.items i.addresses.items i.names i.entries.items i.labels.items i.taken.items };
 }
 
 /// The number of the symbol table of a file whose headers and sections pass the checks.
@@ -102,6 +110,9 @@ impl Image {
         };
         let code = code_table(alloc, &loaded)?;
         let addresses = addresses(alloc, &names)?;
+        let entries = entries(alloc, bytes, &loaded, number)?;
+        let labels = labels(alloc, bytes, &loaded)?;
+        let taken = taken_functions(alloc, bytes, &loaded, &addresses)?;
         let bytes = Vec::from_slice(alloc, bytes)?;
         Ok(Image {
             bytes,
@@ -110,6 +121,9 @@ impl Image {
             code,
             addresses,
             names,
+            entries,
+            labels,
+            taken,
         })
     }
 
@@ -126,7 +140,7 @@ impl Image {
     pub fn entry_of(&self, name: &[u8]) -> Option<u32>
         ensures { result ≡ entry_of self.now name.now }
     {
-        entry_in(&self.bytes, &self.loaded, self.number, name)
+        entry_in(&self.bytes, self.number, &self.entries, name)
     }
 
     /// The least code address at or above `a`: None exactly where there is none.
@@ -134,6 +148,25 @@ impl Image {
         ensures { MatchOption result (HasNoCodeFrom self.now a) (IsNextCode self.now a) }
     {
         next_in(&self.bytes, &self.loaded, &self.code, a)
+    }
+
+    /// The labels from `lo` to below `hi`, rising: the code addresses that stand in an aligned word of a read-only
+    /// section.
+    pub fn labels(&self, lo: u32, hi: u64) -> &[u32]
+        ensures rise { Rise result.now }
+        ensures each { All (IsLabelWithin self.now lo hi) result.now }
+        ensures all { (a : ℕ) → IsLabelWithin self.now lo hi a → Contains result.now a }
+    {
+        labels_in(&self.bytes, &self.labels, lo, hi)
+    }
+
+    /// The functions whose entry stands in an aligned word of a loaded section, writable or not, rising.
+    pub fn taken_functions(&self) -> &[u32]
+        ensures rise { Rise result.now }
+        ensures each { All (IsTaken self.now) result.now }
+        ensures all { (a : ℕ) → IsTaken self.now a → Contains result.now a }
+    {
+        &self.taken
     }
 
     /// The extent of a code address: from the greatest function at or below it in its section, else the section's

@@ -38,7 +38,7 @@ pub fn holder(loaded: &[Section], a: u32, n: u32) -> Option<Section>
 }
 
 /// The `n` bytes from `a` on of a section.
-fn bytes_of<'a>(file: &'a [u8], s: Section, a: u32, n: u32) -> &'a [u8]
+pub fn bytes_of<'a>(file: &'a [u8], s: Section, a: u32, n: u32) -> &'a [u8]
     requires inside { s.offset + s.size ≤ length file.now }
     requires begins { s.address ≤ a }
     requires ends { a + n ≤ s.address + s.size }

@@ -54,7 +54,7 @@ pub fn function_symbol(
 }
 
 /// Whether a name comes before another, by their bytes.
-fn is_before(x: &[u8], y: &[u8]) -> bool
+pub fn is_before(x: &[u8], y: &[u8]) -> bool
     ensures { result ≡ is_before x.now y.now }
 {
     x.cmp(y).is_lt()

@@ -193,3 +193,83 @@ fn looks_up(rt: HostRuntime) -> Result<(), Fail> {
     }
     Ok(())
 }
+
+/// An executable with two functions, `f` at 02000000 and `g` at 02000008, whose code words hold 02000004. Of its
+/// data, two read-only sections hold 02000000 in the same bytes; the first also has 02000008 two bytes past a
+/// multiple of 4. Two sections of two bytes have 0200000c between them. A writable one holds 02000008 and 0200000c.
+fn labelled(alloc: Global, read_only: u32) -> Result<Vec<u8>, AllocError> {
+    let words = [
+        0x7f454c46, 0x01020100, 0, 0, 0x00020002, 1, 0x02000000, 0, 0x94, 0, 0x00340000, 0x28,
+        0x00090007, 0x02000004, 0x01000000, 0x81c3e008, 0x01000000, 0x02000000, 0x00000200,
+        0x00080000, 0x0200000c, 0x02000008, 0x0200000c, 0, 0, 0, 0, 1, 0x02000000, 8, 0x12000001,
+        3, 0x02000008, 8, 0x12000001, 0x00660067, 0,
+    ];
+    let sections = [
+        [0, 0, 0, 0, 0, 0, 0],
+        [1, 6, 0x02000000, 0x34, 16, 0, 0],
+        [1, 2, read_only, 0x44, 12, 0, 0],
+        [1, 2, 0x50000000, 0x50, 2, 0, 0],
+        [1, 2, 0x50000002, 0x52, 2, 0, 0],
+        [1, 3, 0x60000000, 0x54, 8, 0, 0],
+        [2, 0, 0, 0x5c, 48, 7, 16],
+        [3, 0, 0, 0x8c, 5, 0, 0],
+        [1, 2, 0x70000000, 0x44, 4, 0, 0],
+    ];
+    let mut bytes = bytes_of(alloc, &words)?;
+    for s in sections {
+        let header = [0, s[0], s[1], s[2], s[3], s[4], s[5], 0, 0, s[6]];
+        bytes.extend_from_slice(&bytes_of(alloc, &header)?)?;
+    }
+    Ok(bytes)
+}
+
+/// The image of bytes that have to be read.
+fn image_of(rt: &impl Abort, alloc: Global, bytes: &[u8]) -> Image {
+    match Image::read(alloc, bytes) {
+        Ok(image) => image,
+        Err(_) => panic!(rt; "refused"),
+    }
+}
+
+/// The labels between some ends.
+#[test]
+fn finds_labels(rt: HostRuntime) -> Result<(), Fail> {
+    let image = image_of(&rt, rt.alloc(), &labelled(rt.alloc(), 0x40000000)?);
+    let cases: [(u32, u64, &[u32]); 9] = [
+        (0, 1 << 32, &[0x02000000, 0x02000004]),
+        (0x02000000, 0x02000005, &[0x02000000, 0x02000004]),
+        (0x02000000, 0x02000004, &[0x02000000]),
+        (0x02000001, 0x02000005, &[0x02000004]),
+        (0x02000004, 1 << 32, &[0x02000004]),
+        (0x02000005, 1 << 32, &[]),
+        (0, 0x02000000, &[]),
+        (0x02000004, 0x02000004, &[]),
+        (0x02000008, 0x02000000, &[]),
+    ];
+    for (lo, hi, want) in cases {
+        assert_eq!(rt; image.labels(lo, hi), want);
+    }
+    assert_eq!(rt;
+        image.taken_functions(),
+        [0x02000000, 0x02000008].as_slice()
+    );
+
+    let moved = image_of(&rt, rt.alloc(), &labelled(rt.alloc(), 0x40000002)?);
+    assert_eq!(rt;
+        moved.labels(0x02000001, 1 << 32),
+        [0x02000004, 0x02000008].as_slice()
+    );
+
+    let high = read(
+        &rt,
+        &[(52, 0xfffffffc), (80, 0xfffffff8), (148, 0xfffffff8)],
+    )?;
+    assert_eq!(rt; high.labels(0, 1 << 32), [0xfffffffc].as_slice());
+    assert_eq!(rt;
+        high.labels(0xfffffffc, 0xfffffffd),
+        [0xfffffffc].as_slice()
+    );
+    assert_eq!(rt; high.labels(0, 0xfffffffc), [].as_slice());
+    assert_eq!(rt; high.taken_functions(), [].as_slice());
+    Ok(())
+}

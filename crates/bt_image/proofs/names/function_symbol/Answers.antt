@@ -1,5 +1,5 @@
 use Rattle.std.proofs.Common.{◌≤◌, length, sym, ◌∙◌, ap, subst}
-use Rattle.bt_image.specs.Symbol.{names_code, symbol_at, symbol_strings}
+use Rattle.bt_image.specs.Symbol.{names_code, symbol_strings}
 use Rattle.bt_image.specs.declared.symbol.Symbol.{Symbol}
 use Rattle.bt_image.proofs.SymbolLemmas.{named_within}
 use Rattle.bt_image.proofs.names.function_symbol.Goals as goal

@@ -1,9 +1,9 @@
-use Rattle.std.proofs.Common.{◌≡◌, ℕ, Bool, Option, Some, nat_cmp, sym, ◌∙◌, ap, subst}
+use Rattle.std.proofs.Common.{Bool, Some, nat_cmp, ◌∙◌, ap}
 use Rattle.std.specs.BTreeMap.{get}
 use Rattle.std.specs.Map.{keys_of}
-use Rattle.bt_image.specs.Names.{better, name_from}
+use Rattle.bt_image.specs.Names.{better}
 use Rattle.bt_image.specs.declared.names.Name.{Name}
-use Rattle.bt_image.proofs.NameLemmas.{keys-insert, apart_keys, names_noted}
+use Rattle.bt_image.proofs.NameLemmas.{keys-insert, apart_keys}
 use Rattle.bt_image.proofs.names.note.Goals as goal
 
 pub returns : goal.returns

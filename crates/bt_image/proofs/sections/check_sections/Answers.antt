@@ -1,7 +1,6 @@
-use Rattle.std.proofs.Common.{◌≡◌, ◌<◌, sym, ap, ◌∙◌, arith}
+use Rattle.std.proofs.Common.{◌<◌, sym, ap, ◌∙◌, arith}
 use Rattle.bt_image.specs.File.{section_count}
 use Rattle.bt_image.specs.Refusal.{section_fault, sections_refusal}
-use Rattle.bt_image.specs.Section.{symbol_table}
 use Rattle.bt_image.specs.Least.{first_of}
 use Rattle.bt_image.proofs.LeastLemmas.{first_of-here}
 use Rattle.bt_image.proofs.sections.check_sections.Goals as goal

@@ -1,4 +1,4 @@
-use Rattle.std.proofs.Common.{◌≡◌, ℕ, ◌<◌, ◌≤◌, length, arith}
+use Rattle.std.proofs.Common.{arith}
 use Rattle.bt_image.proofs.StringLemmas.{ended-before}
 use Rattle.bt_image.proofs.strings.ended_len.Goals as goal
 

@@ -1,4 +1,4 @@
-use Rattle.std.proofs.Common.{◌<◌, sym, not, arith}
+use Rattle.std.proofs.Common.{sym, not, arith}
 use Rattle.std.specs.Prelude.{◌==◌}
 use Rattle.std.proofs.lemmas.Bool.Decides.{nat_tests}
 use Rattle.std.proofs.lemmas.List.Sums.{prefix_len_is}

@@ -1,4 +1,4 @@
-use Rattle.std.proofs.Common.{◌<◌, sym, ◌∙◌, arith}
+use Rattle.std.proofs.Common.{◌<◌, sym, arith}
 use Rattle.bt_image.specs.Refusal.{is_unnamed}
 use Rattle.bt_image.specs.Symbol.{symbol_count}
 use Rattle.bt_image.proofs.LeastLemmas.{first_passing-here}
