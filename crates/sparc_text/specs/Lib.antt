@@ -1,0 +1,5 @@
+pub mod Laws
+pub mod Listing
+pub mod Names
+pub mod Progress
+pub mod Text
