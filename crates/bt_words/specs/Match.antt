@@ -1,0 +1,29 @@
+-- What the matches of a subcommand hold where the words are without a fault.
+use Rattle.std.specs.Prelude.{◌≡◌, ◌⊎◌, List, Option, Some, IsSome, IsSomeAnd, codes, pos}
+use Rattle.clap.specs.Words.{IsSignedIn, Row, Text, first_of, one_of, without_minus}
+
+-- the argument of this name has a value
+abbrev pub HasText : Text → List Row → Type 0
+HasText id rows = IsSome (first_of id rows)
+
+-- the number of workers has a value, which writes a number from 1 to 64
+pub record HasNumber (rows : List Row) : Type 0 where
+  pub text : Text
+  pub read : one_of (codes "workers") rows ≡ Some (without_minus text)
+  pub within : IsSignedIn (pos 1) (pos 64) text
+
+-- all that `bound` asks for is there
+pub record IsBoundMatch (rows : List Row) : Type 0 where
+  pub image : HasText (codes "IMAGE") rows
+  pub cycles : HasText (codes "CYCLES") rows
+  pub assertions : HasText (codes "ASSERTIONS") rows
+  pub workers : HasNumber rows
+
+-- all that the subcommand of this name asks for is there
+abbrev pub IsMatch : Text → List Row → Type 0
+IsMatch name rows = ((name ≡ codes "bound") × IsBoundMatch rows)
+    ⊎ ((name ≡ codes "decode") × HasText (codes "IMAGE") rows)
+
+-- a subcommand is entered, and all that it asks for is there
+abbrev pub IsMatched : Option (Text × List Row) → Type 0
+IsMatched entered = IsSomeAnd entered (λ p. IsMatch p.0 p.1)
