@@ -1,4 +1,6 @@
 pub mod Answer
+pub mod Bound
 pub mod Call
+pub mod Decode
 pub mod Report
 pub mod Status

@@ -220,9 +220,57 @@ fn answers_faults_and_faulty_words(rt: HostRuntime) -> Result<(), Fail> {
         ("bound i c a", 2, none, "boundt: 6 ReadFault file 2", 0),
         ("bound j c a", none, none, "boundt: 6 ReadFault file 1", 0),
         ("bound i d a", none, none, "boundt: 6 ReadFault file 2", 0),
+        ("decode i", 0, none, "boundt: 6 ReadFault file 1", 0),
+        ("decode j", none, none, "boundt: 6 ReadFault file 1", 0),
+        ("decode i", none, 0, "boundt: 7 WriteFault written 0", 0),
         ("bound i c", none, none, "boundt: 2 Usage", 0),
         ("bounds i c a", none, none, "boundt: 2 Usage", 0),
+        ("bound a b", none, none, "boundt: 2 Usage", 0),
+        ("bound i c a --workers 0", none, none, "boundt: 2 Usage", 0),
+        ("bound i c a --workers 65", none, none, "boundt: 2 Usage", 0),
+        (
+            "bound i c a --workers 1 --workers 1",
+            none,
+            none,
+            "boundt: 2 Usage",
+            0,
+        ),
+        ("--workers 2 bound i c a", none, none, "boundt: 2 Usage", 0),
+        ("decode i --workers 1", none, none, "boundt: 2 Usage", 0),
+        ("help", none, none, "boundt: 2 Usage", 0),
+        ("--help", none, none, "boundt: 2 Usage", 0),
+        ("bound -h", none, none, "boundt: 2 Usage", 0),
+        ("bound -i c a", none, none, "boundt: 2 Usage", 0),
+        (
+            "bound -- -i c a",
+            none,
+            none,
+            "boundt: 6 ReadFault file 1",
+            0,
+        ),
+        ("bound i - a", none, none, "boundt: 6 ReadFault file 2", 0),
+        (
+            "bound help c a",
+            none,
+            none,
+            "boundt: 6 ReadFault file 1",
+            0,
+        ),
         ("", none, none, "boundt: 2 Usage", 0),
+        (
+            "bound --workers 64 i c a",
+            none,
+            none,
+            "boundt: 0 Bounded",
+            REPORT.len(),
+        ),
+        (
+            "bound i c --workers=2 a",
+            none,
+            none,
+            "boundt: 0 Bounded",
+            REPORT.len(),
+        ),
         ("bound i c a", none, none, "boundt: 0 Bounded", REPORT.len()),
     ] {
         let image = bytes_of(alloc, LEAF)?;
@@ -233,6 +281,36 @@ fn answers_faults_and_faulty_words(rt: HostRuntime) -> Result<(), Fail> {
         let report = REPORT.as_bytes();
         assert!(rt; written <= report.len());
         assert_eq!(rt; text.as_slice(), &report[..written]);
+    }
+    Ok(())
+}
+
+#[test]
+fn lists_the_code(rt: HostRuntime) -> Result<(), Fail> {
+    let alloc = rt.alloc();
+    // the four words of code, and their lines
+    for (code, lines) in [
+        (
+            "110000019012200581c3e00801000000",
+            "02000000 11000001 sethi 0x00000001, %o0\n02000004 90122005 or %o0, 5, %o0\n02000008 81c3e008 jmpl %o7+8, %g0\n0200000c 01000000 sethi 0x00000000, %g0\n",
+        ),
+        (
+            "9210202812bffffe30800001ffffffff",
+            "02000000 92102028 or %g0, 40, %o1\n02000004 12bffffe bne 01fffffc\n02000008 30800001 ba,a 0200000c\n0200000c ffffffff .word 0xffffffff\n",
+        ),
+    ] {
+        let digits = format!(in alloc; "{BEFORE}{code}{BEHIND}")?;
+        let image = bytes_of(alloc, digits.as_str())?;
+        let (status, text) = answer(
+            alloc,
+            "decode i",
+            image,
+            Vec::new(alloc),
+            u64::MAX,
+            u64::MAX,
+        )?;
+        assert_eq!(rt; status, Status::Bounded);
+        assert_eq!(rt; text.as_slice(), lines.as_bytes());
     }
     Ok(())
 }
