@@ -1,3 +1,4 @@
 pub mod OperationLemmas
 pub mod PointwiseLemmas
 pub mod RowLemmas
+pub mod RunLemmas

@@ -1,23 +1,22 @@
 -- Operations on values cover the results on words, and are monotone.
-use Rattle.std.proofs.Common.{◌≡◌, ℕ, zero, suc, ◌+◌, ◌-◌, ◌*◌, ◌/◌, ◌%◌, ◌^◌, ◌<◌, ◌≤◌, ◌⊎◌, ◌&&◌, Bool, true, false, cond, List, [], ◌∷◌, ◌++◌, length, get_or, Option, Some, None, MatchOption, refl, sym, ap, subst, ◌∙◌, inl, inr, ⊎_elim, arith, map, All, Contains}
-use Rattle.std.specs.Prelude.{ℤ, bit_and, bit_or, bit_xor}
-use Rattle.std.specs.List.{flat_map}
+use Rattle.std.proofs.Common.{◌≡◌, ℕ, zero, suc, ◌%◌, ◌^◌, ◌<◌, ◌≤◌, ◌⊎◌, ◌&&◌, Bool, true, false, cond, List, [], ◌∷◌, Option, Some, None, MatchOption, refl, sym, ap, subst, ◌∙◌, inl, inr, arith, All, Contains}
+use Rattle.std.specs.Prelude.{bit_and, bit_or, bit_xor}
 use Rattle.std.specs.List.Sorted.{IsStrictlyIncreasing}
 use Rattle.std.proofs.Math.Nat.{div-le_self}
-use Rattle.std.proofs.lemmas.Bool.{false≢true, true≢false, both_ways, and_parts, and_left, and_from, eqb-true, eq-eqb}
+use Rattle.std.proofs.lemmas.Bool.{false≢true, true≢false, both_ways, and_parts, and_from, eqb-true}
 use Rattle.std.proofs.lemmas.Nat.{and_le_l, and_le_r, or_of_32, xor_of_32, or_disjoint}
 use Rattle.std.proofs.lemmas.List.Elements.{All-contains}
 use Rattle.value_lattice.specs.Ends.{AreEnds, AreEndsOf}
 use Rattle.value_lattice.specs.Laws.{AreMore}
 use Rattle.value_lattice.specs.Order.{place_of, word_at, rank_of}
 use Rattle.value_lattice.specs.Set.{IsSet}
-use Rattle.value_lattice.specs.Value.{Has, AtMost, IsValue, IsOver, HasEach, IsLeast, IsBetween}
+use Rattle.value_lattice.specs.Value.{Has, AtMost, IsValue, IsOver, IsLeast}
 use Rattle.value_lattice.specs.declared.value.Value.{Value}
 use Rattle.value_lattice.specs.declared.value.Value.TheVariants.{Words, Range, Ret}
 use Rattle.value_lattice.proofs.JoinLemmas.{between_ends, ends_inside, no_ret_in_set}
 use Rattle.value_lattice.proofs.SetLemmas.{place_of-word_at, word_at_below}
-use Rattle.value_lattice.proofs.ValueLemmas.{no_range_in_set, no_set_in_ret, no_range_in_ret, over_more, same_value, set_is_least}
-use Rattle.value_ops.specs.Operation.{result_of, one_in, one_of, is_zero_word, is_zero, copies_left, copies_right, copied_of, IsPointwise, IsSpanned, IsComputed, IsStep, IsTwice, IsApplied}
+use Rattle.value_lattice.proofs.ValueLemmas.{no_range_in_set, over_more, same_value}
+use Rattle.value_ops.specs.Operation.{result_of, one_of, is_zero_word, is_zero, copies_left, copies_right, IsPointwise, IsSpanned, IsComputed, IsStep, IsTwice, IsApplied}
 use Rattle.value_ops.specs.Row.{IsFilled, all, shifts, row_of, left_shifts, right_shifts, signed_shifts}
 use Rattle.value_ops.specs.declared.op.Op.{Op}
 use Rattle.value_ops.specs.declared.op.Op.TheVariants.{Add, Sub, And, Or, Xor, Andn, Orn, Xnor, Sll, Srl, Sra, Addx, Subx}

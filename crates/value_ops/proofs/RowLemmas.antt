@@ -1,14 +1,13 @@
 -- The results of words between ends are between the ends that a row gives, and wider ends give wider ones.
-use Rattle.std.proofs.Common.{◌≡◌, ℕ, zero, suc, ◌+◌, ◌-◌, ◌*◌, ◌/◌, ◌%◌, ◌^◌, ◌<◌, ◌≤◌, ◌⊎◌, Bool, true, false, ◌&&◌, cond, min, Option, Some, None, refl, sym, ap, subst, ◌∙◌, inl, inr, arith, nat_le, nat_lt, nat_eq}
-use Rattle.std.specs.Prelude.{bit_and, bit_or, bit_xor}
+use Rattle.std.proofs.Common.{◌≡◌, ℕ, zero, suc, ◌+◌, ◌-◌, ◌*◌, ◌/◌, ◌%◌, ◌^◌, ◌<◌, ◌≤◌, true, false, ◌&&◌, cond, min, refl, sym, ap, subst, ◌∙◌, inl, inr, arith, nat_le, nat_lt, nat_eq}
+use Rattle.std.specs.Prelude.{bit_and}
 use Rattle.std.proofs.Math.Nat.{div-mul-le_self, div-lt_iff_lt-mul, div-le_self, pow-le-pow_right, add-mul, mul-div_cancel, mul-add-div_right}
-use Rattle.std.proofs.lemmas.Bool.{and_parts, leb-true, leb-false, ltb-true, ltb-false, eqb-true, eqb-false, cond_both, cond-true, cond-false, cases_lt, le-leb, lt-leb, lt-ltb, and_from}
+use Rattle.std.proofs.lemmas.Bool.{and_parts, leb-true, ltb-true, eqb-false, cond_both, cond-true, cond-false, cases_lt, le-leb, lt-leb, lt-ltb, and_from}
 use Rattle.std.proofs.lemmas.Nat.{and_le_l, and_le_r, le-div, pow_pos, pow-add, mul-le}
 use Rattle.value_lattice.specs.Order.{place_of}
-use Rattle.value_lattice.specs.Value.{IsBetween}
-use Rattle.value_ops.specs.Row.{IsFilled, all, sums, differences, conjunctions, left_conjunctions, scales, scaled, left_shifts, right_shifts, signed_shifts, shifts, row_of}
+use Rattle.value_ops.specs.Row.{IsFilled, all, sums, differences, conjunctions, left_conjunctions, scales, scaled, left_shifts, right_shifts, signed_shifts}
 use Rattle.value_ops.specs.declared.rows.Span.{Span}
-use Rattle.word_ops.specs.Word.{sum_of, difference_of, complement_of, shifted_left, shifted_right, shifted_right_signed}
+use Rattle.word_ops.specs.Word.{sum_of, difference_of}
 
 -- a word is in a span
 pub record IsIn (s : Span) (w : ℕ) : Type 0 where

@@ -1,3 +1,4 @@
 pub mod Laws
 pub mod Operation
 pub mod Row
+pub mod Run

@@ -1,15 +1,16 @@
 ghost use Rattle.std.specs.Prelude.{◌≡◌, ◌∷◌, [], IfOk};
 ghost use Rattle.value_lattice.specs.Ends.{AreEnds};
-ghost use Rattle.value_lattice.specs.Value.{IsValue, IsOver};
-ghost use Rattle.value_ops.specs.Operation.{IsApplied, IsStep, IsTwice, IsSpanned, IsComputed, copies_left, copies_right, one_in, one_of, is_zero};
+ghost use Rattle.value_lattice.specs.Value.{IsValue, IsOver, IsLeast};
+ghost use Rattle.value_ops.specs.Operation.{IsApplied, IsStep, IsTwice, IsSpanned, IsComputed, IsPointwise, copies_left, copies_right, one_in, one_of, is_zero};
 ghost use Rattle.value_ops.specs.Row.{IsFilled};
 
 use crate::Op;
 use crate::pointwise::pointwise;
 use crate::rows::{Span, row};
+use crate::runs::results_of_runs;
 use bt_base::Want;
 use std::alloc::Global;
-use value_lattice::{Thresholds, Value, cover, span_of_places};
+use value_lattice::{Thresholds, Value, Words, cover, span_of_places};
 
 /// The one word of rising words, if there is one.
 fn one_in(words: &[u32]) -> Option<u32>
@@ -62,6 +63,29 @@ fn spanned(alloc: Global, op: Op, a: &Value, b: &Value, t: &Thresholds) -> Resul
     span_of_places(alloc, ends.low, ends.high, t)
 }
 
+/// The least value that has the result of each pair of words of two sets. Where the sets are runs, as the values
+/// of counters are, and so are the results, nothing is listed but a result that is a set.
+fn of_sets(
+    alloc: Global,
+    op: Op,
+    xs: &Words,
+    ys: &Words,
+    a: Span,
+    b: Span,
+    t: &Thresholds,
+) -> Result<Value, Want>
+    requires left { AreEnds (Value.Words xs.now) a.low a.high }
+    requires right { AreEnds (Value.Words ys.now) b.low b.high }
+    requires left_filled { IsFilled a }
+    requires right_filled { IsFilled b }
+    ensures { IfOk result (IsLeast t.now (IsPointwise op xs.now ys.now)) }
+{
+    match results_of_runs(op, xs, ys, a, b) {
+        Some(ends) => span_of_places(alloc, ends.low, ends.high, t),
+        None => pointwise(alloc, op, xs, ys, t),
+    }
+}
+
 /// The result of an operation whose sides aren't copied.
 fn computed(alloc: Global, op: Op, a: &Value, b: &Value, t: &Thresholds) -> Result<Value, Want>
     requires left { IsValue a.now }
@@ -70,7 +94,7 @@ fn computed(alloc: Global, op: Op, a: &Value, b: &Value, t: &Thresholds) -> Resu
 {
     match a {
         Value::Words(xs) => match b {
-            Value::Words(ys) => pointwise(alloc, op, xs, ys, t),
+            Value::Words(ys) => of_sets(alloc, op, xs, ys, span_of(a), span_of(b), t),
             Value::Range { .. } => spanned(alloc, op, a, b, t),
             Value::Ret => spanned(alloc, op, a, b, t),
         },

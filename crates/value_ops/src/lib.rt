@@ -7,6 +7,7 @@ mod laws;
 mod op;
 mod pointwise;
 mod rows;
+mod runs;
 
 pub use applying::apply;
 pub use laws::{operations_are_monotone, results_are_covered};

@@ -2,10 +2,10 @@
 use crate::{Op, apply};
 use std::alloc::Global;
 use std::test::Fail;
-use value_lattice::{Thresholds, Value, number_at_place, span};
+use value_lattice::{Thresholds, Value, cover, number_at_place, span};
 
 /// An operation, the ends of its sources, and the ends of its result.
-const CASES: [(Op, [i32; 6]); 24] = [
+const CASES: [(Op, [i32; 6]); 29] = [
     (
         Op::Add,
         [2147483647, 2147483647, 1, 1, -2147483648, -2147483648],
@@ -33,6 +33,17 @@ const CASES: [(Op, [i32; 6]); 24] = [
     (Op::Sra, [-8, -8, 1, 1, -4, -4]),
     (Op::Addx, [4, 4, 5, 5, 9, 10]),
     (Op::Subx, [0, 255, 0, 0, -1, 255]),
+    (Op::Add, [0, 127, 0, 127, 0, 255]),
+    (Op::Add, [-60, 60, 3, 9, -57, 69]),
+    (Op::Sub, [0, 127, 0, 127, -128, 127]),
+    (
+        Op::Add,
+        [2147483600, 2147483647, 0, 1, -2147483648, 2147483647],
+    ),
+    (
+        Op::Sub,
+        [-2147483648, -2147483640, 0, 1, -2147483648, 2147483647],
+    ),
 ];
 
 /// The ends of the result of an operation.
@@ -65,5 +76,104 @@ fn the_return_address(rt: HostRuntime) -> Result<(), Fail> {
     let ret = Value::Ret;
     assert!(rt; matches!(apply(alloc, Op::Add, &ret, &zero, &t)?, Value::Ret));
     assert!(rt; matches!(apply(alloc, Op::Xor, &ret, &zero, &t)?, Value::Range { .. }));
+    Ok(())
+}
+
+const OPS: [Op; 13] = [
+    Op::Add,
+    Op::Sub,
+    Op::And,
+    Op::Or,
+    Op::Xor,
+    Op::Andn,
+    Op::Orn,
+    Op::Xnor,
+    Op::Sll,
+    Op::Srl,
+    Op::Sra,
+    Op::Addx,
+    Op::Subx,
+];
+
+/// Small sets: runs and others, of either sign, and counts of shifts.
+const SETS: [[u32; 3]; 6] = [
+    [0, 0, 0],
+    [1, 2, 3],
+    [5, 31, 33],
+    [2147483647, 2147483648, 2147483649],
+    [0, 1, 4294967295],
+    [305419896, 2147483648, 65535],
+];
+
+/// The result of an operation on two words by the language's own operations.
+fn plain(op: Op, x: u32, y: u32, carry: u32) -> u32 {
+    let count = y % 32;
+    match op {
+        Op::Add => x.wrapping_add(y),
+        Op::Sub => x.wrapping_sub(y),
+        Op::And => x & y,
+        Op::Or => x | y,
+        Op::Xor => x ^ y,
+        Op::Andn => x & !y,
+        Op::Orn => x | !y,
+        Op::Xnor => !(x ^ y),
+        Op::Sll => x << count,
+        Op::Srl => x >> count,
+        Op::Sra => (x.cast_signed() >> count).cast_unsigned(),
+        Op::Addx => x.wrapping_add(y).wrapping_add(carry),
+        Op::Subx => x.wrapping_sub(y).wrapping_sub(carry),
+    }
+}
+
+/// The results of an operation on each pair of words, with either carry.
+fn plain_results(alloc: Global, op: Op, xs: [u32; 3], ys: [u32; 3]) -> Result<Vec<u32>, Fail> {
+    let mut results = Vec::new(alloc);
+    for x in xs {
+        for y in ys {
+            results.push(plain(op, x, y, 0))?;
+            results.push(plain(op, x, y, 1))?;
+        }
+    }
+    Ok(results)
+}
+
+/// Whether a value is the set of these words.
+fn is_set_of(v: &Value, words: &[u32]) -> bool {
+    match v {
+        Value::Words(set) => {
+            set.members().iter().all(|w| words.contains(w)) && words.iter().all(|w| set.has(*w))
+        }
+        _ => false,
+    }
+}
+
+/// Whether an operation on two sets is the set of the results.
+fn agrees(alloc: Global, op: Op, xs: [u32; 3], ys: [u32; 3]) -> Result<bool, Fail> {
+    let t = Thresholds::make(alloc, &[])?;
+    let a = cover(alloc, &xs, &t)?;
+    let b = cover(alloc, &ys, &t)?;
+    let v = apply(alloc, op, &a, &b, &t)?;
+    let results = plain_results(alloc, op, xs, ys)?;
+    Ok(is_set_of(&v, results.as_slice()))
+}
+
+/// Whether an operation agrees on each pair of the sets.
+fn agrees_on_all(alloc: Global, op: Op) -> Result<bool, Fail> {
+    for xs in SETS {
+        for ys in SETS {
+            if !agrees(alloc, op, xs, ys)? {
+                return Ok(false);
+            }
+        }
+    }
+    Ok(true)
+}
+
+#[test]
+fn sets_of_results(rt: HostRuntime) -> Result<(), Fail> {
+    for op in OPS {
+        let same = agrees_on_all(rt.alloc(), op)?;
+        assert!(rt; same, "{op:?}");
+    }
     Ok(())
 }

@@ -1,0 +1,5 @@
+pub mod ComparisonLemmas
+pub mod LawLemmas
+pub mod ReachLemmas
+pub mod RefineLemmas
+pub mod RegionLemmas
