@@ -3,8 +3,6 @@
 
 mod classes;
 mod laws;
-mod line_text;
-mod numerals;
 mod reading;
 mod refusal;
 mod table;

@@ -2,15 +2,18 @@
 ghost use Rattle.std.specs.Prelude.{◌≡◌, ◌+◌, ◌^◌, ◌<◌, ◌≤◌, ◌==◌, ℕ, [], ◌∷◌, length, None, Some, Ok, All, slice_set, MatchOption, MatchResult, IfOk, IfSome, OnOk};
 ghost use Rattle.std.specs.Str.Lines.{lines};
 ghost use Rattle.cycle_table.specs.Class.{place_of};
-ghost use Rattle.cycle_table.specs.LineText.{words_of};
 ghost use Rattle.cycle_table.specs.Row.{rows_from, is_header, says, costs_as};
 ghost use Rattle.cycle_table.specs.Table.{body_of, completed, fault_said, AreCosts};
+ghost use Rattle.line_text.specs.LineText.{words_of};
+ghost use Rattle.line_text.specs.Numeral.{number_up_to};
 
 use crate::classes::{self, COUNT};
-use crate::line_text::{next_line, next_word, uncommented};
-use crate::numerals::number_of;
 use crate::{CycleRefusal, Why};
+use line_text::{next_line, next_word, number_up_to, uncommented};
 use sparc_decode::CostClass;
+
+/// The greatest cost.
+pub const MOST: u64 = 1_000_000;
 
 /// A line that has words.
 #[derive(Clone, Copy, Debug)]
@@ -62,6 +65,17 @@ pub fn is_header(name: &[u8], words: &[u8]) -> bool
     }
 }
 
+/// The cost that a word is, if it is one.
+fn cost_of(word: &[u8]) -> Option<u32>
+    ensures value { result ≡ number_up_to MOST word.now }
+    ensures most { IfSome result (λ cost. cost ≤ 1000000) }
+{
+    match number_up_to(word, MOST) {
+        None => None,
+        Some(cost) => Some(cost as u32),
+    }
+}
+
 /// What follows the name of a class: its cost, and nothing else.
 fn costs_as(class: CostClass, words: &[u8]) -> Result<(CostClass, u32), Why>
     ensures value { result ≡ costs_as class (words_of words.now) }
@@ -69,7 +83,7 @@ fn costs_as(class: CostClass, words: &[u8]) -> Result<(CostClass, u32), Why>
 {
     match next_word(words) {
         None => Err(Why::Number),
-        Some(word) => match number_of(word.text) {
+        Some(word) => match cost_of(word.text) {
             None => Err(Why::Number),
             Some(cost) => match next_word(word.rest) {
                 None => Ok((class, cost)),

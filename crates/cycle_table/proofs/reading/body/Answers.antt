@@ -3,7 +3,7 @@ use Rattle.std.specs.Str.Lines.{lines}
 use Rattle.std.proofs.lemmas.List.Elements.{All-set}
 use Rattle.cycle_table.proofs.Tables.{IsRead, read_none, read_more, no_costs_small}
 use Rattle.cycle_table.specs.Class.{place_of}
-use Rattle.cycle_table.specs.LineText.{words_of}
+use Rattle.line_text.specs.LineText.{words_of}
 use Rattle.cycle_table.specs.Row.{Row, rows_from}
 use Rattle.cycle_table.proofs.reading.body.Goals as goal
 

@@ -1,0 +1,7 @@
+pub mod AssertionLists
+pub mod Columns
+pub mod Grammars
+pub mod HexDigits
+pub mod Misfits
+pub mod Phrases
+pub mod PlaceLists

@@ -1,0 +1,11 @@
+pub mod Bounds
+pub mod Column
+pub mod Grammar
+pub mod Keyword
+pub mod Misfit
+pub mod Number
+pub mod Phrase
+pub mod Register
+pub mod Spot
+pub mod Statement
+pub mod Text

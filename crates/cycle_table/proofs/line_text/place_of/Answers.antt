@@ -1,7 +1,0 @@
-use Rattle.std.proofs.Common.{ℕ, length, Option, ap, ◌∙◌, eqb, unwrap_or}
-use Rattle.cycle_table.proofs.LineTexts.{place_is}
-use Rattle.cycle_table.proofs.line_text.place_of.Goals as goal
-
-pub returns-clause-value : goal.returns-clause-value
-returns-clause-value c =
-    c.unwrap_or.ensures ∙ ap (λ (o : Option ℕ). unwrap_or o (length c.args.text.now)) c.first_place.ensures ∙ place_is (λ b. eqb b c.args.byte) c.args.text.now
