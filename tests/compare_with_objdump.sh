@@ -4,7 +4,7 @@
 #
 #     tests/compare_with_objdump.sh [EXECUTABLE..]
 #
-# Without names it takes examples/*/*.elf. It prints each difference that isn't one of spelling, and ends with
+# Without names it takes examples/*.elf. It prints each difference that isn't one of spelling, and ends with
 # status 1 where there is one. Where no objdump for SPARC is found it says so and ends with status 0.
 #
 # OBJDUMP: the disassembler; else sparc64-linux-gnu-objdump, else objdump.
@@ -121,7 +121,7 @@ if [ -z "$objdump" ]; then
     exit 0
 fi
 if [ $# -eq 0 ]; then
-    set -- "$top"/examples/*/*.elf
+    set -- "$top"/examples/*.elf
     if [ ! -e "$1" ]; then
         echo "skipped: there are no examples"
         exit 0

@@ -1,4 +1,8 @@
+pub mod Asked
+pub mod Calls
+pub mod Firsts
 pub mod Matches
+pub mod Numbers
 pub mod Readings
 pub mod Refusals
 pub mod Rows

@@ -103,13 +103,13 @@ first_of_row a (v ∷ vs) lt e = (v, refl, passed _ _ (both_pass _ _ e).0)
 
 -- ---- the subcommands, as they are built
 
-abbrev built_sub : Shape → Shape
+abbrev pub built_sub : Shape → Shape
 built_sub s = built_leaf (inherited (on_top with_leaf_noted (on_top marked_built boundt_app)).top s)
 
-abbrev bound_built : Shape
+abbrev pub bound_built : Shape
 bound_built = built_sub bound_shape
 
-abbrev decode_built : Shape
+abbrev pub decode_built : Shape
 decode_built = built_sub decode_shape
 
 abbrev rule_in : Shape → Text → Rule
@@ -166,7 +166,7 @@ decode_matched words e =
 
 -- ---- the whole command line
 
-abbrev top_built : App
+abbrev pub top_built : App
 top_built = built boundt_app
 
 entered_matched : (rows : List Row) (words : List Text) (b d : Bool)

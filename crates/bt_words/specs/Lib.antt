@@ -1,3 +1,4 @@
 pub mod App
+pub mod Law
 pub mod Match
 pub mod Request

@@ -2,8 +2,12 @@
 #![tactic(auto)]
 
 mod command;
+mod laws;
 mod request;
 
+pub use laws::{
+    commands_come_first, faultless_words_ask, one_name_asks, three_names_ask, workers_are_asked,
+};
 pub use request::{NoRequest, Request, request_of};
 
 #[cfg(test)]

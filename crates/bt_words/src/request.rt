@@ -72,9 +72,8 @@ fn decode_of<'a>(found: &ArgMatches<'a>) -> Request<'a>
     ensures asked { decode_asked (rows_of (found_of found.now)) ≡ Some (asked_of result) }
     ensures workers { HasWorkers (asked_of result) }
 {
-    Request::Decode {
-        image: text_of(found, "IMAGE"),
-    }
+    let image = text_of(found, "IMAGE");
+    Request::Decode { image }
 }
 
 /// What the matches of the subcommand of this name ask for.

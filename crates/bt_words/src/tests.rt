@@ -59,7 +59,7 @@ const REFUSED: [&str; 52] = [
     "decode -h",
 ];
 
-/// Words that ask for a bound, and what they ask for.
+/// Words that ask for a bound, and what they ask for. A number may have a sign + and leading zeros.
 const BOUND: [(&str, &str, &str, &str, u32); 24] = [
     ("bound i c a", "i", "c", "a", 1),
     ("bound --workers 2 i c a", "i", "c", "a", 2),

@@ -1,3 +1,4 @@
 pub mod BoundedRuns
 pub mod Keeping
+pub mod Reading
 pub mod StraightRuns

@@ -4,6 +4,7 @@ pub mod Kept
 pub mod Machine
 pub mod Memory
 pub mod Outcome
+pub mod Reads
 pub mod Register
 pub mod Run
 pub mod Straight

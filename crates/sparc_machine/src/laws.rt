@@ -1,5 +1,6 @@
 //! Facts about the machine: each is the contract of a function that does nothing.
 ghost use Rattle.sparc_machine.specs.Kept.{EachStepKeeps};
+ghost use Rattle.sparc_machine.specs.Reads.{DependsOnReadsAlone};
 ghost use Rattle.sparc_machine.specs.Register.{RegistersAreApart, GlobalsAreShared, NeighboursOverlap, WindowsComeBack};
 ghost use Rattle.sparc_machine.specs.Straight.{StraightCodeIsOne};
 
@@ -32,4 +33,9 @@ pub fn each_step_keeps()
 /// Where the code from an entry on is straight, it is so with one number of words.
 pub fn straight_code_is_one()
     ensures { StraightCodeIsOne }
+{}
+
+/// What an instruction does depends on no registers but those that `sparc_decode::reads` names.
+pub fn reads_are_all()
+    ensures { DependsOnReadsAlone }
 {}

@@ -16,7 +16,7 @@ mod trap;
 pub use effects::step;
 pub use free::Free;
 pub use laws::{
-    each_step_keeps, globals_are_shared, neighbours_overlap, registers_are_apart,
+    each_step_keeps, globals_are_shared, neighbours_overlap, reads_are_all, registers_are_apart,
     straight_code_is_one, windows_come_back,
 };
 pub use machine::{Machine, physical};

@@ -1,0 +1,4 @@
+pub mod AddressLemmas
+pub mod BindingLemmas
+pub mod IndexLemmas
+pub mod SubjectLemmas
