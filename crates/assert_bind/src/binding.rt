@@ -81,6 +81,13 @@ pub fn bind(alloc: Global, list: &[Assertion], image: &Image) -> Result<Binding,
 }
 
 impl Binding {
+    /// The assertions, in the file's order.
+    pub fn assertions(&self) -> &[BoundAssertion]
+        ensures { result.now ≡ self.now }
+    {
+        &self.list
+    }
+
     /// The entries of the roots, in the file's order.
     pub fn roots(&self) -> &[u32]
         ensures { result.now ≡ roots self.now }

@@ -9,12 +9,14 @@ use Rattle.bt_command.specs.declared.status.Status.TheVariants.{Bounded, Usage, 
 
 -- what a status says of a call that asks for this
 abbrev pub Says : Asked → Call → Status → Type 0
-Says (bounds image cycles assertions workers) call status = BoundSays image cycles call status
+Says (bounds image cycles assertions workers) call status =
+    BoundSays (record { image = image; cycles = cycles; assertions = assertions }) call status
 Says (lists image) call status = DecodeSays image call status
 
 -- where the files are accepted and no fault rises, the whole text is written, but for want of memory
 abbrev pub IsWhole : Asked → Call → Status → Type 0
-IsWhole (bounds image cycles assertions workers) call status = BoundIsWhole image cycles call status
+IsWhole (bounds image cycles assertions workers) call status =
+    BoundIsWhole (record { image = image; cycles = cycles; assertions = assertions }) call status
 IsWhole (lists image) call status = DecodeIsWhole image call status
 
 -- with any status but that of the whole text and that of a text cut short nothing was written

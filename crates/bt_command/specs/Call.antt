@@ -1,10 +1,18 @@
 -- A call of the program, and what its files are.
 use Rattle.std.specs.Prelude.{◌≡◌, ℕ, ◌<◌, ◌≤◌, List, length, take, Option, Some, None, IfSome, Ok, Err}
+use Rattle.assert_bind.specs.Binding.{binding}
+use Rattle.assert_bind.specs.declared.body.BoundAssertion.{BoundAssertion}
+use Rattle.assert_bind.specs.declared.refusal.BindRefusal.{BindRefusal}
+use Rattle.assert_lang.specs.Text.{assertions_of}
+use Rattle.assert_lang.specs.declared.assertion.Assertion.{Assertion}
+use Rattle.assert_lang.specs.declared.refusal.AssertRefusal.{AssertRefusal}
 use Rattle.bt_base.specs.Shelf.{Rose}
 use Rattle.bt_base.specs.Sink.{Appended}
 use Rattle.bt_image.specs.Refusal.{first_refusal}
 use Rattle.bt_image.specs.declared.refusal.ImageRefusal.{ImageRefusal}
-use Rattle.bt_command.specs.declared.inputs.TheConstants.{IMAGE_LIMIT, TABLE_LIMIT}
+use Rattle.bt_command.specs.declared.inputs.TheConstants.{IMAGE_LIMIT, TABLE_LIMIT, ASSERTIONS_LIMIT}
+use Rattle.bt_command.specs.declared.status.AssertFault.{AssertFault}
+use Rattle.bt_command.specs.declared.status.AssertFault.TheVariants.{Parse, Bind}
 use Rattle.cycle_table.specs.Table.{table_of}
 use Rattle.cycle_table.specs.declared.refusal.CycleRefusal.{CycleRefusal}
 
@@ -67,6 +75,38 @@ pub record IsNoTable (told : Option (List ℕ)) (refusal : CycleRefusal) : Type 
   pub table : List ℕ
   pub file : HasFile told TABLE_LIMIT table
   pub refused : table_of table ≡ Err refusal
+
+-- some table of cycles is accepted
+pub record AcceptsCosts (told : Option (List ℕ)) : Type 0 where
+  pub costs : List ℕ
+  pub has : HasCosts told costs
+
+-- the assertions that a file states of an image
+pub record HasAssertions (told : Option (List ℕ)) (image : List ℕ) (those : List BoundAssertion) : Type 0 where
+  pub text : List ℕ
+  pub file : HasFile told ASSERTIONS_LIMIT text
+  pub list : List Assertion
+  pub parsed : assertions_of text ≡ Ok list
+  pub bound : binding image list ≡ Ok those
+
+-- a file is no list of assertions, and this is the first refusal of its text
+pub record IsNoList (told : Option (List ℕ)) (refusal : AssertRefusal) : Type 0 where
+  pub text : List ℕ
+  pub file : HasFile told ASSERTIONS_LIMIT text
+  pub refused : assertions_of text ≡ Err refusal
+
+-- the assertions of a file can't be bound to an image, and this is the refusal of the first that can't
+pub record IsUnbound (told : Option (List ℕ)) (image : List ℕ) (refusal : BindRefusal) : Type 0 where
+  pub text : List ℕ
+  pub file : HasFile told ASSERTIONS_LIMIT text
+  pub list : List Assertion
+  pub parsed : assertions_of text ≡ Ok list
+  pub refused : binding image list ≡ Err refusal
+
+-- why a file states nothing of an image
+abbrev pub StatesNothing : Option (List ℕ) → List ℕ → AssertFault → Type 0
+StatesNothing told image (Parse refusal) = IsNoList told refusal
+StatesNothing told image (Bind refusal) = IsUnbound told image refusal
 
 -- the whole of a text was written
 pub record IsWritten (call : Call) (IsText : List ℕ → Type 0) : Type 0 where

@@ -6,7 +6,7 @@ use Rattle.bt_command.specs.Call.{Call, RoseFor, RoseForSink, IsTooLong, HasImag
 use Rattle.bt_command.specs.declared.inputs.TheConstants.{IMAGE_LIMIT}
 use Rattle.bt_command.specs.declared.status.LimitFault.TheVariants.{TooLong}
 use Rattle.bt_command.specs.declared.status.Status.{Status}
-use Rattle.bt_command.specs.declared.status.Status.TheVariants.{Bounded, Usage, Image, Cycles, ReadFault, WriteFault, Want, Limit, NotYet}
+use Rattle.bt_command.specs.declared.status.Status.TheVariants.{Bounded, Usage, Image, Cycles, Assertions, ReadFault, WriteFault, Want, Limit, NotYet}
 
 -- the text of the command: the listing of the image that the file is
 pub record IsListingOf (told : Option (List ℕ)) (text : List ℕ) : Type 0 where
@@ -20,6 +20,7 @@ DecodeSays image call Bounded = IsWritten call (IsListingOf (call.told image))
 DecodeSays image call Usage = ⊥
 DecodeSays image call (Image refusal) = IsNoImage (call.told image) refusal
 DecodeSays image call (Cycles refusal) = ⊥
+DecodeSays image call (Assertions fault) = ⊥
 DecodeSays image call (ReadFault file) = (file ≡ 1) × RoseFor call image
 DecodeSays image call (WriteFault written) = IsCutShort call (IsListingOf (call.told image)) written
 DecodeSays image call Want = Unit {0}

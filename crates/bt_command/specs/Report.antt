@@ -1,8 +1,10 @@
 -- The report, and what it says of the runs of the image that it is of.
 use Rattle.std.specs.Prelude.{◌≡◌, ℕ, List, [], ◌∷◌, ◌++◌, ◌==◌, ◌&&◌, not, drop, Option, Some, None, codes, decimal, nat_le, if◌then◌else◌}
 use Rattle.std.specs.List.{flat_map}
+use Rattle.assert_bind.specs.Binding.{root_in}
+use Rattle.assert_bind.specs.declared.body.BoundAssertion.{BoundAssertion}
 use Rattle.bt_base.specs.Text.{hex8_of}
-use Rattle.bt_image.specs.Symbol.{functions, name_of}
+use Rattle.bt_image.specs.Symbol.{name_of}
 use Rattle.sparc_machine.specs.Run.{BoundsRuns}
 use Rattle.sparc_machine.specs.Straight.{IsStraight, code_cost}
 
@@ -35,21 +37,21 @@ plain_line image entry bound = codes "context " ++ function_text image entry ++ 
 abbrev pub report_of : List ℕ → ℕ → ℕ → List ℕ
 report_of image entry bound = codes "boundt report 1\n" ++ root_line image entry bound ++ plain_line image entry bound ++ codes "end\n"
 
--- the first of a list
-abbrev pub first_of : List ℕ → Option ℕ
-first_of [] = None
-first_of (x ∷ xs) = Some x
+-- the entry of the root, where that is the only assertion
+abbrev pub one_root : List BoundAssertion → Option ℕ
+one_root (only ∷ []) = root_in only.body
+one_root _ = None
 
--- the root is the least function of an image, and its code is straight
-pub record IsRoot (image : List ℕ) (entry count : ℕ) : Type 0 where
-  pub least : first_of (functions image) ≡ Some entry
-  pub straight : IsStraight image entry count
-
--- the text is the report of an image with these costs, and its bound, what the words of the root's code cost, holds
--- of every run of the root
-pub record IsReportOf (image costs text : List ℕ) : Type 0 where
-  pub entry : ℕ
+-- the text is the report of a root of an image with these costs: the root's code is straight, and its bound, what
+-- the words of that code cost, holds of every run of the root
+pub record IsRootReport (image costs : List ℕ) (entry : ℕ) (text : List ℕ) : Type 0 where
   pub count : ℕ
-  pub root : IsRoot image entry count
+  pub straight : IsStraight image entry count
   pub reads : text ≡ report_of image entry (code_cost image costs entry count)
   pub holds : BoundsRuns image costs entry count (code_cost image costs entry count)
+
+-- the text is the report of an image with these costs and these assertions, of which the only one is a root
+pub record IsReportOf (image costs : List ℕ) (those : List BoundAssertion) (text : List ℕ) : Type 0 where
+  pub entry : ℕ
+  pub root : one_root those ≡ Some entry
+  pub report : IsRootReport image costs entry text

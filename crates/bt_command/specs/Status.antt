@@ -1,5 +1,12 @@
 -- The number and the message of each status.
 use Rattle.std.specs.Prelude.{ℕ, List, ◌++◌, codes, decimal}
+use Rattle.assert_bind.specs.declared.refusal.BindRefusal.{BindRefusal}
+use Rattle.assert_bind.specs.declared.refusal.BindRefusal.TheVariants as bind
+use Rattle.assert_lang.specs.declared.refusal.AssertRefusal.{AssertRefusal}
+use Rattle.assert_lang.specs.declared.refusal.AssertRefusal.TheVariants as parse
+use Rattle.assert_lang.specs.declared.refusal.Expected.{Expected}
+use Rattle.assert_lang.specs.declared.refusal.Expected.TheVariants as expected
+use Rattle.bt_base.specs.Text.{hex8_of}
 use Rattle.bt_image.specs.declared.refusal.Counted.{Counted}
 use Rattle.bt_image.specs.declared.refusal.Counted.TheVariants as counted
 use Rattle.bt_image.specs.declared.refusal.ImageRefusal.{ImageRefusal}
@@ -9,9 +16,11 @@ use Rattle.cycle_table.specs.declared.refusal.CycleRefusal.{CycleRefusal}
 use Rattle.cycle_table.specs.declared.refusal.CycleRefusal.TheVariants as cycles
 use Rattle.cycle_table.specs.declared.refusal.Why.{Why}
 use Rattle.cycle_table.specs.declared.refusal.Why.TheVariants as why
+use Rattle.bt_command.specs.declared.status.AssertFault.{AssertFault}
+use Rattle.bt_command.specs.declared.status.AssertFault.TheVariants.{Parse, Bind}
 use Rattle.bt_command.specs.declared.status.LimitFault.TheVariants.{TooLong}
 use Rattle.bt_command.specs.declared.status.Status.{Status}
-use Rattle.bt_command.specs.declared.status.Status.TheVariants.{Bounded, Usage, Image, Cycles, ReadFault, WriteFault, Want, Limit, NotYet}
+use Rattle.bt_command.specs.declared.status.Status.TheVariants.{Bounded, Usage, Image, Cycles, Assertions, ReadFault, WriteFault, Want, Limit, NotYet}
 
 -- the exit status of the program
 abbrev pub code_of : Status → ℕ
@@ -19,6 +28,7 @@ code_of Bounded = 0
 code_of Usage = 2
 code_of (Image refusal) = 3
 code_of (Cycles refusal) = 4
+code_of (Assertions fault) = 5
 code_of (ReadFault file) = 6
 code_of (WriteFault written) = 7
 code_of Want = 8
@@ -63,12 +73,47 @@ cycles_text (cycles.Zero class n) = codes "Zero class " ++ (name_of class ++ (co
 cycles_text (cycles.Missing class) = codes "Missing class " ++ name_of class
 cycles_text cycles.Want = codes "Want"
 
+-- what was expected in a line
+abbrev pub expected_text : Expected → List ℕ
+expected_text expected.Keyword = codes "Keyword"
+expected_text expected.Place = codes "Place"
+expected_text expected.Register = codes "Register"
+expected_text expected.Range = codes "Range"
+expected_text expected.To = codes "To"
+expected_text expected.Repeats = codes "Repeats"
+expected_text expected.Time = codes "Time"
+expected_text expected.Count = codes "Count"
+expected_text expected.End = codes "End"
+
+-- why a text is no list of assertions
+abbrev pub parse_text : AssertRefusal → List ℕ
+parse_text (parse.Line n column what) = codes "Line n " ++ (decimal n ++ (codes " column " ++ (decimal column ++ (codes " expected " ++ expected_text what))))
+parse_text (parse.Limit count) = codes "Limit count " ++ decimal count
+parse_text parse.Want = codes "Want"
+
+-- an address as eight hexadecimal digits
+unfoldable pub address_text : ℕ → List ℕ
+address_text address = hex8_of address
+
+-- why assertions can't be bound to an image
+abbrev pub bind_text : BindRefusal → List ℕ
+bind_text (bind.NoName line) = codes "NoName line " ++ decimal line
+bind_text (bind.NotCode line addr) = codes "NotCode line " ++ (decimal line ++ (codes " addr " ++ address_text addr))
+bind_text (bind.EmptyRange line) = codes "EmptyRange line " ++ decimal line
+bind_text (bind.Conflict line other) = codes "Conflict line " ++ (decimal line ++ (codes " other " ++ decimal other))
+bind_text bind.Want = codes "Want"
+
+abbrev pub assertions_text : AssertFault → List ℕ
+assertions_text (Parse refusal) = parse_text refusal
+assertions_text (Bind refusal) = bind_text refusal
+
 -- the message, without an end of line
 abbrev pub message_of : Status → List ℕ
 message_of Bounded = codes "boundt: 0 Bounded"
 message_of Usage = codes "boundt: 2 Usage"
 message_of (Image refusal) = codes "boundt: 3 " ++ image_text refusal
 message_of (Cycles refusal) = codes "boundt: 4 " ++ cycles_text refusal
+message_of (Assertions fault) = codes "boundt: 5 " ++ assertions_text fault
 message_of (ReadFault file) = codes "boundt: 6 ReadFault file " ++ decimal file
 message_of (WriteFault written) = codes "boundt: 7 WriteFault written " ++ decimal written
 message_of Want = codes "boundt: 8 Want"

@@ -3,8 +3,12 @@ ghost use Rattle.std.specs.Prelude.{◌≡◌, ◌<◌, ℕ, length, IfOk, IfSom
 ghost use Rattle.bt_base.specs.Shelf.{TellsTheSame, NoneFalls, Rose};
 ghost use Rattle.bt_image.specs.declared.refusal.ImageRefusal.{ImageRefusal};
 ghost use Rattle.cycle_table.specs.declared.refusal.CycleRefusal.{CycleRefusal};
-ghost use Rattle.bt_command.specs.Call.{HasFile, HasImage, HasCosts, IsNoImage, IsNoTable};
+ghost use Rattle.bt_command.specs.declared.status.AssertFault.{AssertFault};
+ghost use Rattle.bt_command.specs.Call.{HasFile, HasImage, HasCosts, HasAssertions, IsNoImage, IsNoTable, StatesNothing};
 
+use crate::AssertFault;
+use assert_bind::{BindRefusal, Binding, bind};
+use assert_lang::{AssertRefusal, parse};
 use bt_base::{ReadRefusal, Shelf, read_all};
 use bt_image::{Image, ImageRefusal};
 use cycle_table::{CycleRefusal, Cycles};
@@ -15,6 +19,9 @@ pub const IMAGE_LIMIT: u64 = 16_777_216;
 
 /// The most bytes of a table of cycles: 1 MiB.
 pub const TABLE_LIMIT: u64 = 1_048_576;
+
+/// The most bytes of a file of assertions: 1 MiB.
+pub const ASSERTIONS_LIMIT: u64 = 1_048_576;
 
 /// Why a file wasn't accepted; `R` says why its bytes are refused.
 #[derive(Clone, Copy, Debug, PartialEq, Eq)]
@@ -79,5 +86,38 @@ pub fn cycles_from<F: Shelf>(
     match Cycles::read(&bytes) {
         Ok(cycles) => Ok(cycles),
         Err(refusal) => Err(NoFile::Refused(refusal)),
+    }
+}
+
+/// What the file of assertions under a name states of an image.
+pub fn assertions_from<F: Shelf>(
+    alloc: Global,
+    shelf: &mut F,
+    name: &str,
+    image: &Image,
+) -> Result<Binding, NoFile<AssertFault>>
+    ensures same { TellsTheSame (F.told shelf.old) (F.told shelf.new) }
+    ensures counts { NoneFalls (F.faults shelf.old) (F.faults shelf.new) }
+    ensures accepted { IfOk result (λ binding. HasAssertions (F.told shelf.old name.now) image.now binding) }
+    ensures fault { IsErrOf result NoFile.Fault → Rose (F.faults shelf.old name.now) (F.faults shelf.new name.now) }
+    ensures too_long { IsErrOf result NoFile.TooLong → IfSome (F.told shelf.old name.now) (λ bytes. ASSERTIONS_LIMIT < length bytes) }
+    ensures refused { (fault : AssertFault) → IsErrOf result (NoFile.Refused fault) →
+        StatesNothing (F.told shelf.old name.now) image.now fault }
+{
+    let bytes = match read_all(alloc, shelf, name, ASSERTIONS_LIMIT) {
+        Ok(bytes) => bytes,
+        Err(ReadRefusal::Fault) => return Err(NoFile::Fault),
+        Err(ReadRefusal::TooLong { .. }) => return Err(NoFile::TooLong),
+        Err(ReadRefusal::Want) => return Err(NoFile::Want),
+    };
+    let list = match parse(alloc, &bytes) {
+        Ok(list) => list,
+        Err(AssertRefusal::Want) => return Err(NoFile::Want),
+        Err(refusal) => return Err(NoFile::Refused(AssertFault::Parse(refusal))),
+    };
+    match bind(alloc, list.as_slice(), image) {
+        Ok(binding) => Ok(binding),
+        Err(BindRefusal::Want) => Err(NoFile::Want),
+        Err(refusal) => Err(NoFile::Refused(AssertFault::Bind(refusal))),
     }
 }

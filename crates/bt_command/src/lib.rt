@@ -6,9 +6,7 @@ mod messages;
 mod reporting;
 mod running;
 mod status;
-#[cfg(test)]
-mod tests;
 
-pub use inputs::{IMAGE_LIMIT, TABLE_LIMIT};
+pub use inputs::{ASSERTIONS_LIMIT, IMAGE_LIMIT, TABLE_LIMIT};
 pub use running::run_alone;
-pub use status::{LimitFault, Status};
+pub use status::{AssertFault, LimitFault, Status};

@@ -1,8 +1,10 @@
 //! The texts of the refusals in a message: a name, then each field's name and its value.
 ghost use Rattle.std.specs.Prelude.{◌≡◌, IfOk, string_bytes};
-ghost use Rattle.bt_command.specs.Status.{counted_text, image_text, why_text, cycles_text};
+ghost use Rattle.bt_command.specs.Status.{counted_text, image_text, why_text, cycles_text, expected_text, parse_text, address_text, bind_text};
 
-use bt_base::Want;
+use assert_bind::BindRefusal;
+use assert_lang::{AssertRefusal, Expected};
+use bt_base::{Want, hex8};
 use bt_image::{Counted, ImageRefusal};
 use cycle_table::{CycleRefusal, Why, class_name};
 use std::alloc::Global;
@@ -81,6 +83,79 @@ pub fn cycles_text(alloc: Global, refusal: &CycleRefusal) -> Result<String, Want
             format!(in alloc; "Missing class {class}")
         }
         CycleRefusal::Want => format!(in alloc; "Want"),
+    };
+    match text {
+        Ok(text) => Ok(text),
+        Err(_) => Err(Want),
+    }
+}
+
+/// The name of what was expected in a line.
+fn expected_text(expected: Expected) -> &'static str
+    ensures { result.now ≡ expected_text expected }
+{
+    match expected {
+        Expected::Keyword => "Keyword",
+        Expected::Place => "Place",
+        Expected::Register => "Register",
+        Expected::Range => "Range",
+        Expected::To => "To",
+        Expected::Repeats => "Repeats",
+        Expected::Time => "Time",
+        Expected::Count => "Count",
+        Expected::End => "End",
+    }
+}
+
+/// Why a text is no list of assertions.
+pub fn parse_text(alloc: Global, refusal: &AssertRefusal) -> Result<String, Want>
+    ensures { IfOk result (λ text. string_bytes text ≡ parse_text refusal.now) }
+{
+    let text = match refusal {
+        AssertRefusal::Line {
+            n,
+            column,
+            expected,
+        } => {
+            let expected = expected_text(*expected);
+            format!(in alloc; "Line n {n} column {column} expected {expected}")
+        }
+        AssertRefusal::Limit { count } => format!(in alloc; "Limit count {count}"),
+        AssertRefusal::Want => format!(in alloc; "Want"),
+    };
+    match text {
+        Ok(text) => Ok(text),
+        Err(_) => Err(Want),
+    }
+}
+
+/// An address as eight hexadecimal digits.
+#[tactic(auto, unfolding(crate::specs::Status::address_text))]
+fn address_text(alloc: Global, address: u32) -> Result<String, Want>
+    ensures { IfOk result (λ text. string_bytes text ≡ address_text address) }
+{
+    let digits = Vec::from_slice(alloc, &hex8(address))?;
+    match String::from_utf8(digits) {
+        Ok(text) => Ok(text),
+        Err(_) => unreachable!(),
+    }
+}
+
+/// Why assertions can't be bound to an image.
+pub fn bind_text(alloc: Global, refusal: &BindRefusal) -> Result<String, Want>
+    ensures { IfOk result (λ text. string_bytes text ≡ bind_text refusal.now) }
+{
+    let text = match refusal {
+        BindRefusal::NoName { line } => format!(in alloc; "NoName line {line}"),
+        BindRefusal::NotCode { line, addr } => {
+            let addr = address_text(alloc, *addr)?;
+            format!(in alloc; "NotCode line {line} addr {addr}")
+        }
+        BindRefusal::EmptyRange { line } => format!(in alloc; "EmptyRange line {line}"),
+        BindRefusal::Conflict { line, other } => {
+            format!(in alloc; "Conflict line {line} other {other}")
+        }
+        BindRefusal::Want => format!(in alloc; "Want"),
     };
     match text {
         Ok(text) => Ok(text),

@@ -1,7 +1,9 @@
 ghost use Rattle.std.specs.Prelude.{◌≡◌, ◌++◌, ℕ, List, IfOk, IfSome, IfNone, IsErrOf};
-ghost use Rattle.bt_command.specs.Report.{shown_byte, shown, shown_name, function_text, root_line, plain_line, report_of, first_of, IsRoot, IsReportOf};
-ghost use Rattle.bt_image.specs.Symbol.{functions, name_of};
+ghost use Rattle.bt_command.specs.Report.{shown_byte, shown, shown_name, function_text, root_line, plain_line, report_of, one_root, IsRootReport};
+ghost use Rattle.bt_image.specs.Symbol.{name_of};
+ghost use Rattle.sparc_machine.specs.Straight.{IsStraight};
 
+use assert_bind::{Binding, BoundBody};
 use bt_base::{Want, hex8, put_decimal};
 use bt_image::Image;
 use cycle_table::Cycles;
@@ -11,8 +13,8 @@ use std::alloc::Global;
 /// Why no report was made.
 #[derive(Clone, Copy, Debug, PartialEq, Eq)]
 pub enum NoReport {
-    /// The image has no function, or the code of the least one isn't straight.
-    NoRoot,
+    /// The code of the root isn't straight.
+    NotStraight,
     /// Memory was wanting.
     Want,
 }
@@ -93,26 +95,32 @@ fn report(alloc: Global, image: &Image, entry: u32, bound: u64) -> Result<Vec<u8
     Ok(text)
 }
 
-/// The least function of an image.
-fn least_function(image: &Image) -> Option<u32>
-    ensures { result ≡ first_of (functions image.now) }
+/// The entry of the root, where that is the only assertion.
+pub fn only_root(binding: &Binding) -> Option<u32>
+    ensures { result ≡ one_root binding.now }
 {
-    image.functions().first().copied()
+    match binding.assertions() {
+        [only] => match only.body {
+            BoundBody::Root(entry) => Some(entry),
+            _ => None,
+        },
+        _ => None,
+    }
 }
 
-/// The report of an image: its root is the least function, whose code is straight, and its bound is what the
-/// words of that code cost.
-pub fn report_for(alloc: Global, image: &Image, cycles: &Cycles) -> Result<Vec<u8>, NoReport>
-    ensures report { IfOk result (λ text. IsReportOf image.now cycles.now text.items) }
-    ensures refused { IsErrOf result NoReport.NoRoot → (entry count : ℕ) → IsRoot image.now entry count → ⊥ }
+/// The report of the one root, whose code is straight: its bound is what the words of that code cost.
+pub fn report_for(
+    alloc: Global,
+    image: &Image,
+    cycles: &Cycles,
+    entry: u32,
+) -> Result<Vec<u8>, NoReport>
+    ensures report { IfOk result (λ text. IsRootReport image.now cycles.now entry text.items) }
+    ensures refused { IsErrOf result NoReport.NotStraight → (count : ℕ) → IsStraight image.now entry count → ⊥ }
 {
-    let entry = match least_function(image) {
-        Some(entry) => entry,
-        None => return Err(NoReport::NoRoot),
-    };
     let code = match straight_from(image, cycles, entry) {
         Some(code) => code,
-        None => return Err(NoReport::NoRoot),
+        None => return Err(NoReport::NotStraight),
     };
     match report(alloc, image, entry, code.cycles) {
         Ok(text) => Ok(text),

@@ -6,26 +6,29 @@ ghost use Rattle.bt_command.specs.Answer.{Answers, Writes};
 ghost use Rattle.bt_command.specs.Bound.{BoundSays};
 ghost use Rattle.bt_command.specs.Decode.{DecodeSays};
 
-use crate::inputs::{IMAGE_LIMIT, NoFile, TABLE_LIMIT, cycles_from, image_from};
-use crate::reporting::{NoReport, report_for};
+use crate::inputs::{
+    ASSERTIONS_LIMIT, IMAGE_LIMIT, NoFile, TABLE_LIMIT, assertions_from, cycles_from, image_from,
+};
+use crate::reporting::{NoReport, only_root, report_for};
 use crate::{LimitFault, Status};
 use bt_base::{Shelf, Sink, write_all};
 use bt_words::{NoRequest, Request, request_of};
 use sparc_text::listing;
 use std::alloc::Global;
 
-/// The command `bound`: reads the image and the table, makes the report and writes it.
+/// The command `bound`: reads the image, the table and the assertions, makes the report and writes it.
 fn bound<F: Shelf, K: Sink>(
     alloc: Global,
     image: &str,
     cycles: &str,
+    assertions: &str,
     shelf: &mut F,
     out: &mut K,
 ) -> Status
     ensures same { TellsTheSame (F.told shelf.old) (F.told shelf.new) }
     ensures counts { NoneFalls (F.faults shelf.old) (F.faults shelf.new) }
     ensures sink_counts { K.faults out.old ≤ K.faults out.new }
-    ensures says { BoundSays image.now cycles.now (record {
+    ensures says { BoundSays (record { image = image.now; cycles = cycles.now; assertions = assertions.now }) (record {
       told = F.told shelf.old;
       faults = F.faults shelf.old;
       faults_after = F.faults shelf.new;
@@ -60,9 +63,25 @@ fn bound<F: Shelf, K: Sink>(
         Err(NoFile::Refused(refusal)) => return Status::Cycles(refusal),
         Err(NoFile::Want) => return Status::Want,
     };
-    let text = match report_for(alloc, &image, &cycles) {
+    let binding = match assertions_from(alloc, shelf, assertions, &image) {
+        Ok(binding) => binding,
+        Err(NoFile::Fault) => return Status::ReadFault { file: 3 },
+        Err(NoFile::TooLong) => {
+            return Status::Limit(LimitFault::TooLong {
+                file: 3,
+                limit: ASSERTIONS_LIMIT,
+            });
+        }
+        Err(NoFile::Refused(fault)) => return Status::Assertions(fault),
+        Err(NoFile::Want) => return Status::Want,
+    };
+    let entry = match only_root(&binding) {
+        Some(entry) => entry,
+        None => return Status::NotYet { file: 3 },
+    };
+    let text = match report_for(alloc, &image, &cycles, entry) {
         Ok(text) => text,
-        Err(NoReport::NoRoot) => return Status::NotYet { file: 1 },
+        Err(NoReport::NotStraight) => return Status::NotYet { file: 1 },
         Err(NoReport::Want) => return Status::Want,
     };
     match write_all(out, &text) {
@@ -116,10 +135,11 @@ fn decode<F: Shelf, K: Sink>(alloc: Global, image: &str, shelf: &mut F, out: &mu
 /// Runs the command that the words ask for, reads its files from the shelf, and writes its text to the sink.
 ///
 /// The words are those after the program's name: `bound IMAGE CYCLES ASSERTIONS [--workers N]` or `decode IMAGE`.
-/// Of `bound` the assertions aren't read yet, the one root is the least function of the image, and one worker
-/// works whatever N is. What is refused is refused in this order: the words, the image, the table of cycles, the
-/// form of the root's code, which is straight. Of a file a failed read comes first, then its length, then its
-/// bytes. Nothing is written before the whole text stands.
+/// The assertions of `bound` state one root, whose code is straight; other assertions and other code are answered with
+/// NotYet. One worker works whatever N is. What is refused is refused in this order: the words, the image, the table
+/// of cycles, the assertions as a text and then as bound to the image, what they state (NotYet of file 3), the root's
+/// code (NotYet of file 1). Of a file a failed read comes first, then its length, then its bytes. Nothing is written
+/// before the whole text stands.
 pub fn run_alone<F: Shelf, K: Sink>(
     alloc: Global,
     words: &[String],
@@ -144,7 +164,14 @@ pub fn run_alone<F: Shelf, K: Sink>(
     ensures writes { Writes (K.told out.old) (K.told out.new) result }
 {
     match request_of(alloc, words) {
-        Ok(Request::Bound { image, cycles, .. }) => bound(alloc, image, cycles, shelf, out),
+        Ok(
+            Request::Bound {
+                image,
+                cycles,
+                assertions,
+                ..
+            },
+        ) => bound(alloc, image, cycles, assertions, shelf, out),
         Ok(Request::Decode { image }) => decode(alloc, image, shelf, out),
         Err(NoRequest::Usage) => Status::Usage,
         Err(NoRequest::Want) => Status::Want,

@@ -1,7 +1,9 @@
 ghost use Rattle.std.specs.Prelude.{◌≡◌, IfOk, string_bytes};
 ghost use Rattle.bt_command.specs.Status.{code_of, message_of};
 
-use crate::messages::{cycles_text, image_text};
+use crate::messages::{bind_text, cycles_text, image_text, parse_text};
+use assert_bind::BindRefusal;
+use assert_lang::AssertRefusal;
 use bt_base::Want;
 use bt_image::ImageRefusal;
 use cycle_table::CycleRefusal;
@@ -18,6 +20,8 @@ pub enum Status {
     Image(ImageRefusal),
     /// The table of cycles is none, for this reason.
     Cycles(CycleRefusal),
+    /// The assertions are none, or can't be bound to the image, for this reason.
+    Assertions(AssertFault),
     /// A read of this file failed; files are numbered from 1, in the order of the words.
     ReadFault { file: u32 },
     /// A write failed after so many bytes of the text.
@@ -28,6 +32,15 @@ pub enum Status {
     Limit(LimitFault),
     /// This file is of a form that isn't built yet.
     NotYet { file: u32 },
+}
+
+/// Why a file of assertions isn't accepted.
+#[derive(Clone, Copy, Debug, PartialEq, Eq)]
+pub enum AssertFault {
+    /// It is no list of assertions.
+    Parse(AssertRefusal),
+    /// An assertion can't be bound to the image.
+    Bind(BindRefusal),
 }
 
 /// Which limit is passed.
@@ -47,6 +60,7 @@ impl Status {
             Status::Usage => 2,
             Status::Image(_) => 3,
             Status::Cycles(_) => 4,
+            Status::Assertions(_) => 5,
             Status::ReadFault { .. } => 6,
             Status::WriteFault { .. } => 7,
             Status::Want => 8,
@@ -70,6 +84,14 @@ impl Status {
             Status::Cycles(refusal) => {
                 let refusal = cycles_text(alloc, refusal)?;
                 format!(in alloc; "boundt: 4 {refusal}")
+            }
+            Status::Assertions(AssertFault::Parse(refusal)) => {
+                let refusal = parse_text(alloc, refusal)?;
+                format!(in alloc; "boundt: 5 {refusal}")
+            }
+            Status::Assertions(AssertFault::Bind(refusal)) => {
+                let refusal = bind_text(alloc, refusal)?;
+                format!(in alloc; "boundt: 5 {refusal}")
             }
             Status::ReadFault { file } => format!(in alloc; "boundt: 6 ReadFault file {file}"),
             Status::WriteFault { written } => {

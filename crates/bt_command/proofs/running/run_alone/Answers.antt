@@ -8,7 +8,7 @@ use Rattle.bt_command.proofs.running.run_alone.Goals as goal
 pub returns-in-Ok-Bound-clause-answers : goal.returns-in-Ok-Bound-clause-answers
 returns-in-Ok-Bound-clause-answers g c =
     answered _ (subst (λ (r : Request). IsRequest (texts c.args.words.now) (asked_of r)) c.in-Ok-Bound.field-0-is c.in-Ok-Bound.ensures.ok)
-    c.bound.ensures.says (bound_whole _ _ _ _ c.bound.ensures.says)
+    c.bound.ensures.says (bound_whole _ _ _ c.bound.ensures.says)
 
 pub returns-in-Ok-Decode-clause-answers : goal.returns-in-Ok-Decode-clause-answers
 returns-in-Ok-Decode-clause-answers g c =

@@ -1,0 +1,9 @@
+//! The worked rows of the program's commands, as tables of whole calls over files and a sink in memory.
+#![tactic(auto)]
+
+#[cfg(test)]
+mod bound;
+#[cfg(test)]
+mod calls;
+#[cfg(test)]
+mod decode;

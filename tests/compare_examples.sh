@@ -1,0 +1,29 @@
+#!/bin/sh
+# Compares what the program says of each executable in examples/ with what stands beside it: its listing, and the
+# report or the refusal of its bound. It prints what differs, and ends with status 1 where something does. Where there
+# is no program it says so and ends with status 0.
+#
+# BOUNDT: the program; else crates/boundt/out/boundt, which `rt run` in crates/boundt proves, builds and leaves there.
+set -u
+top=$(cd "$(dirname "$0")/.." && pwd)
+boundt=${BOUNDT:-$top/crates/boundt/out/boundt}
+if [ ! -x "$boundt" ]; then
+    echo "skipped: there is no program $boundt ('rt run' in crates/boundt makes it)"
+    exit 0
+fi
+said=$(mktemp) || exit 1
+trap 'rm -f "$said"' EXIT
+cd "$top/examples" || exit 1
+
+status=0
+count=0
+for image in *.elf; do
+    name=${image%.elf}
+    "$boundt" decode "$image" > "$said" 2>&1
+    diff -u "$name.listing" "$said" || status=1
+    "$boundt" bound "$image" erc32.cycles "$name.assert" > "$said" 2>&1
+    diff -u "$name.report" "$said" || status=1
+    count=$((count + 1))
+done
+echo "examples: $count executables compared"
+exit $status
