@@ -1,9 +1,7 @@
 -- Assertions bound one after the other.
-use Rattle.std.proofs.Common.{◌≡◌, ℕ, ◌+◌, ◌<◌, ◌≤◌, Bool, true, false, cond, List, [], ◌∷◌, ◌++◌, length, drop, get_or, Some, None, Result, Ok, Err, All, refl, sym, ◌∙◌, ap, add-one, arith, drop-cons, length-append, ⊎_elim}
-use Rattle.std.specs.List.{cons_option}
-use Rattle.std.proofs.Math.ListN.{get_or-append}
-use Rattle.std.proofs.Math.Seq.{get_or-append_seam}
-use Rattle.std.proofs.lemmas.Bool.{cases_lt}
+use Rattle.std.proofs.Common.{◌≡◌, ℕ, ◌+◌, ◌<◌, ◌≤◌, Bool, true, false, cond, List, [], ◌∷◌, ◌++◌, length, drop, get_or, Some, None, Result, Ok, Err, All, refl, sym, ◌∙◌, ap, add-one, drop-cons}
+use Rattle.std.specs.List.{AllPairs, cons_option}
+use Rattle.std.proofs.lemmas.List.Quantifiers.{all_pairs_push}
 use Rattle.std.proofs.lemmas.List.{drop_all}
 use Rattle.std.proofs.lemmas.List.Elements.{All-push, All-cons, All-tail, All-head, All-nil}
 use Rattle.std.proofs.lemmas.Option.{none-some}
@@ -63,27 +61,13 @@ none_at (x ∷ xs) s none =
     let p = none_of x xs s (is_same (subject_of x.body) s) refl none in
     All-cons (IsElsewhere s) x xs p.0 (none_at xs s p.1)
 
+-- a list whose assertions speak of different things, with one more that none of them speaks of
+pub apart_more : (list : List BoundAssertion) (x : BoundAssertion) → AllPairs AreApart list → about list (subject_of x.body) ≡ None → AllPairs AreApart (list ++ x ∷ [])
+apart_more list x apart none = all_pairs_push AreApart list x apart (none_at list (subject_of x.body) none)
+
 -- a list that is sound, with one more assertion
 pub sound_more : (list : List BoundAssertion) (x : BoundAssertion) → IsSound list → SaysWithin x → about list (subject_of x.body) ≡ None → IsSound (list ++ x ∷ [])
-sound_more list x sound within none = record {
-  within = All-push SaysWithin list x sound.within within;
-  apart = λ i j d less below. ⊎_elim (among i j d less) (last i j d less below) (cases_lt j (length list));
-}
-  where
-    among : (i j : ℕ) (d : BoundAssertion) → i < j → j < length list → AreApart (get_or (list ++ x ∷ []) i d) (get_or (list ++ x ∷ []) j d)
-    among i j d less within =
-        let first : get_or (list ++ x ∷ []) i d ≡ get_or list i d = get_or-append list (x ∷ []) d i (omega arith) in
-        let second : get_or (list ++ x ∷ []) j d ≡ get_or list j d = get_or-append list (x ∷ []) d j within in
-        rw (first, second) (sound.apart i j d less within)
-
-    last : (i j : ℕ) (d : BoundAssertion) → i < j → j < length (list ++ x ∷ []) → length list ≤ j → AreApart (get_or (list ++ x ∷ []) i d) (get_or (list ++ x ∷ []) j d)
-    last i j d less below past =
-        let longer : length (list ++ x ∷ []) ≡ length list + 1 = length-append list (x ∷ []) in
-        let at : j ≡ length list = omega arith in
-        let front : i < length list = omega arith in
-        let first : get_or (list ++ x ∷ []) i d ≡ get_or list i d = get_or-append list (x ∷ []) d i front in
-        let second : get_or (list ++ x ∷ []) j d ≡ x = ap (λ (n : ℕ). get_or (list ++ x ∷ []) n d) at ∙ get_or-append_seam list x [] d in
-        rw (first, second) (none_at list (subject_of x.body) none i d front)
+sound_more list x sound within none = record { within = All-push SaysWithin list x sound.within within; apart = apart_more list x sound.apart none }
 
 loop_within : (line : ℕ) (says : BoundBody) (more : List LoopLine) → IsWithin says → All CountsWithin more → All CountsWithin (cons_option (loop_in line says) more)
 loop_within line (body.Root entry) more within rest = rest

@@ -1,4 +1,10 @@
+pub mod AboutLemmas
 pub mod AddressLemmas
 pub mod BindingLemmas
+pub mod BoundLemmas
 pub mod IndexLemmas
+pub mod SaysLemmas
+pub mod SightLemmas
+pub mod StubLemmas
 pub mod SubjectLemmas
+pub mod WorkedLemmas

@@ -1,5 +1,10 @@
 pub mod Address
 pub mod Binding
 pub mod Body
+pub mod Bound
 pub mod Index
+pub mod Says
+pub mod Sight
+pub mod Stubs
 pub mod Subject
+pub mod Worked

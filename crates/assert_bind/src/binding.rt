@@ -88,6 +88,14 @@ impl Binding {
         &self.list
     }
 
+    /// Does nothing; its contract is what holds of each binding: its counts and times are from 1 to 2^62 - 1 and its
+    /// registers from 1 to 31, and no two of its assertions speak of the same.
+    pub fn sound(&self)
+        ensures { IsSound self.now }
+    {
+        let _ = &self.list;
+    }
+
     /// The entries of the roots, in the file's order.
     pub fn roots(&self) -> &[u32]
         ensures { result.now ≡ roots self.now }

@@ -114,6 +114,24 @@ fn refuses_the_first_that_does_not_bind(rt: HostRuntime) -> Result<(), Fail> {
         ),
         ("root f\nroot g\n\nroot h\nroot g\nroot q", conflict(5, 2)),
         ("root q\nroot f\nroot f", no_name(1)),
+        ("at f %o0 1..0\nroot q", empty(1)),
+        (
+            "never f\n# never f\n\nnever f+0x20",
+            not_code(4, 0x02000020),
+        ),
+        ("call f to g,q,0x8", no_name(1)),
+        ("call f to g,h,f+0x3", not_code(1, 0x02000003)),
+        ("call 0x2000001 to g", not_code(1, 0x02000001)),
+        ("loop q repeats 1", no_name(1)),
+        ("stub 0x2000002 time 1", not_code(1, 0x02000002)),
+        (
+            "stub f time 1\nstub g time 1\nstub f time 2",
+            conflict(3, 1),
+        ),
+        (
+            "at f %o0 0..5\nat f %o1 0..5\nat f+0x0 %o1 9..9",
+            conflict(3, 2),
+        ),
     ] {
         let got = bound(&rt, &image, text.as_bytes()).err();
         assert_eq!(rt; got, want, "{text:?}");
