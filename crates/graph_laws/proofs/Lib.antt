@@ -11,3 +11,4 @@ pub mod Turns
 pub mod Walks
 pub mod WorkedCosts
 pub mod WorkedNests
+pub mod WorkedSums

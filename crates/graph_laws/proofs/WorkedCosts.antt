@@ -7,6 +7,7 @@ use Rattle.graph_laws.specs.Loops.{AreLoops, is_back, edges_inside, IsForward}
 use Rattle.graph_laws.specs.Labels.{Labels, step_cost, IsAtLeast, AreLabels, IsAsked, AreChosen}
 use Rattle.graph_laws.specs.Nest.{loops_of}
 use Rattle.graph_laws.specs.Worked.{ones, two_nodes, below_two, two_loops, LoopOfTwoCostsSix, nested, nested_body, nested_nest, nested_bound, NestedLoopsCostFourteen, InnerLoopCostsSix, one_up, CounterMeetsItsBound, nested_turns, nested_turn_walk, nested_turn_cost, CollapsedWalkCostsFourteen}
+use Rattle.graph_laws.specs.WorkedNests.{LoopOfTwoHasLabels}
 use Rattle.graph_laws.proofs.Attained.{chosen_greatest, own_greatest}
 use Rattle.graph_laws.proofs.Counters.{rising_sums}
 use Rattle.graph_laws.proofs.WorkedNests.{nested_are_loops}
@@ -105,9 +106,14 @@ two_chosen_turn zero (suc zero) v a i l = inl (refl, sym (some_is l))
 two_chosen_turn zero (suc (suc n)) v a i l = cc
 two_chosen_turn (suc h) n v a i l = cc
 
+two_chosen : AreChosen two_nodes two_loops (λ _. 3) ones two_labels two_rank
+two_chosen = record { rest = two_chosen_rest; turn = two_chosen_turn }
+
 pub two_cost : LoopOfTwoCostsSix
-two_cost = chosen_greatest two_nodes 0 two_loops (λ _. 3) ones two_labels two_rank two_are_loops (λ h a. omega arith) two_are_labels
-    (record { rest = two_chosen_rest; turn = two_chosen_turn })
+two_cost = chosen_greatest two_nodes 0 two_loops (λ _. 3) ones two_labels two_rank two_are_loops (λ h a. omega arith) two_are_labels two_chosen
+
+pub two_has_labels : LoopOfTwoHasLabels
+two_has_labels = record { labels = two_labels; rank = two_rank; asked = two_are_labels; chosen = two_chosen; says = refl }
 
 -- the nested loops
 abbrev nested_rest : ℕ → ℕ

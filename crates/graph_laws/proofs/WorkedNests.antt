@@ -5,7 +5,9 @@ use Rattle.graph_laws.specs.Walk.{IsWalk}
 use Rattle.graph_laws.specs.Loops.{AreLoops}
 use Rattle.graph_laws.specs.Nest.{cut, Reaches, SamePart, InScope, ComesFromOutside, IsEntered, IsHead, IsChain, HasHead, loops_of, AreReached}
 use Rattle.graph_laws.specs.Worked.{below_two, nested, below_three, one_or_two, nested_body, nested_outer, nested_nest, NestedLoopsHaveANest, two_ways, TwoWaysHaveNoNest}
-use Rattle.graph_laws.proofs.Nests.{part-sym, part-trans, cut_edge, end_free, nests_loops, no_nest}
+use Rattle.graph_laws.specs.WorkedNests.{NestedLoopsAreLoops, InnerLoopIsALoop, NestedLoopsUnwind, InnerLoopIsAPart, NestedLoopsHaveOneNest, InnerBodyIsEntered}
+use Rattle.graph_laws.proofs.Inner.{inner_loops}
+use Rattle.graph_laws.proofs.Nests.{part-sym, part-trans, cut_edge, end_free, nests_loops, nests_unwound, parts_inside, one_nest, no_nest, reached_entered}
 
 -- a cut edge leaves the first node of a walk
 record Leaves (edge : ℕ → ℕ → Bool) (n : ℕ) : Type 0 where
@@ -189,3 +191,52 @@ pub two_ways_none : TwoWaysHaveNoNest
 two_ways_none nest is =
     no_nest two_ways 0 [] 1 1 2 tt tt
     (from_outside 1 refl (part-trans (cut two_ways []) 1 2 1 round (part-sym (cut two_ways []) 1 2 round))) (from_outside 2 refl round) (λ e. cc) nest is
+
+-- the laws of nests at the nested loops
+pub nested_loops : NestedLoopsAreLoops
+nested_loops = record { reached = nested_reached; loops = nested_are_loops }
+
+pub inner_is_a_loop : InnerLoopIsALoop
+inner_is_a_loop = record { loops = inner_loops nested 0 (loops_of nested_nest) 1 nested_are_loops refl; inner = refl; outer = refl }
+
+pub nested_unwind : NestedLoopsUnwind
+nested_unwind = record {
+  round = (refl, (refl, tt));
+  back = refl;
+  through = (refl, (refl, tt));
+  forward = (refl, (refl, tt));
+  none = nests_unwound nested 0 nested_nest nested_is;
+}
+
+pub inner_is_a_part : InnerLoopIsAPart
+inner_is_a_part = record {
+  without = in_inner 2 refl;
+  below = (parts_inside nested 0 nested_nest nested_is 0 1 2 refl refl refl).0 (in_inner 2 refl);
+  apart = λ p.
+      let q : SamePart (cut nested (0 ∷ [])) 1 0 = (parts_inside nested 0 nested_nest nested_is 0 1 0 refl refl refl).1 p in
+      let z : one_or_two 0 ≡ true = inner_is 0 1 (part-sym (cut nested (0 ∷ [])) 1 0 q) in cc;
+}
+
+pub nested_one_nest : NestedLoopsHaveOneNest
+nested_one_nest nest is = one_nest nested 0 nested_nest nest nested_is is
+
+enters_at_head : (n from : ℕ) → one_or_two n ≡ true → nested from n ≡ true → one_or_two from ≡ false → n ≡ 1
+enters_at_head zero from i e o = cc
+enters_at_head (suc zero) from i e o = refl
+enters_at_head (suc (suc zero)) zero i e o = cc
+enters_at_head (suc (suc zero)) (suc zero) i e o = cc
+enters_at_head (suc (suc zero)) (suc (suc zero)) i e o = cc
+enters_at_head (suc (suc zero)) (suc (suc (suc from))) i e o = cc
+enters_at_head (suc (suc (suc n))) from i e o = cc
+
+pub inner_entered : InnerBodyIsEntered
+inner_entered =
+    let r = nested_reached 2 0 refl in
+    record {
+      reached = r;
+      entered = reached_entered nested 0 one_or_two 2 r refl;
+      only = λ entrance. elim entrance.comes [
+        | inl e ↦ (let z : one_or_two 0 ≡ true = subst (λ x. one_or_two x ≡ true) e entrance.inside in cc)
+        | inr c ↦ enters_at_head entrance.node c.0 entrance.inside c.1 c.2
+      ];
+    }

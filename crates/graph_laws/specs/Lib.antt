@@ -5,3 +5,5 @@ pub mod Loops
 pub mod Nest
 pub mod Walk
 pub mod Worked
+pub mod WorkedNests
+pub mod WorkedSums

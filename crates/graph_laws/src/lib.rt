@@ -24,9 +24,11 @@ pub use nest_laws::{
 };
 pub use walking::{has_edge, is_walk};
 pub use worked_graphs::{
-    collapsed_walk_costs_fourteen, counter_meets_its_bound, inner_loop_costs_six,
-    loop_of_two_costs_six, nested_loops_cost_fourteen, nested_loops_have_a_nest,
-    two_ways_have_no_nest,
+    collapsed_walk_costs_fourteen, counter_meets_its_bound, falling_counter_meets_its_bound,
+    inner_body_is_entered, inner_loop_costs_six, inner_loop_is_a_loop, inner_loop_is_a_part,
+    loop_of_two_costs_six, loop_of_two_has_labels, nested_loops_are_loops,
+    nested_loops_cost_fourteen, nested_loops_have_a_nest, nested_loops_have_one_nest,
+    nested_loops_unwind, nested_sums_fall, nested_sums_rise, two_ways_have_no_nest,
 };
 
 #[cfg(test)]

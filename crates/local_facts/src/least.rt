@@ -1,0 +1,50 @@
+ghost use Rattle.std.specs.Prelude.{◌≡◌, ◌≤◌, IfOk, IfErr, List, Option};
+ghost use Rattle.flow_system.specs.Facts.{fact_at};
+ghost use Rattle.flow_system.specs.State.{IsDueGraph};
+ghost use Rattle.flow_core.specs.Core.{counted_keys};
+ghost use Rattle.flow_core.specs.Refusal.{IsTooBig};
+ghost use Rattle.local_facts.specs.Restricted.{IsRestriction, IsLeastLocal, restricted};
+
+use crate::local::Local;
+use flow_core::{Closed, Core, GrowRefusal, drive};
+use flow_system::{Facts, System};
+use std::alloc::Global;
+
+/// The due graph of a restricted system is the least map over the kept keys that contains the start pieces, and what
+/// its keys give to kept keys with the fixed facts beside it; and that least map is the due graph.
+pub fn due_is_least<S: System>(_system: &S)
+    ensures least { (starts : List (S.Key × S.Val)) (keep : List S.Key) (fixed : List (S.Key × S.Val)) (s : S.Key → Option S.Val)
+        → IsRestriction S.Key.cmp (S.rules _system.now) starts keep fixed
+        → IsDueGraph (restricted S.Key.cmp (S.rules _system.now) starts keep fixed) s
+        → IsLeastLocal S.Key.cmp (S.rules _system.now) starts keep fixed s }
+    ensures due { (starts : List (S.Key × S.Val)) (keep : List S.Key) (fixed : List (S.Key × S.Val)) (s : S.Key → Option S.Val)
+        → IsRestriction S.Key.cmp (S.rules _system.now) starts keep fixed
+        → IsLeastLocal S.Key.cmp (S.rules _system.now) starts keep fixed s
+        → IsDueGraph (restricted S.Key.cmp (S.rules _system.now) starts keep fixed) s }
+{}
+
+/// Drives a restricted system: the least map over the kept keys that contains the start pieces, and what its keys
+/// give to kept keys with the fixed facts beside it.
+///
+/// Nodes comes exactly where that map has more counted keys than the limit.
+pub fn least_facts<'a, S: System>(
+    alloc: Global,
+    system: &'a S,
+    starts: Vec<(S::Key, S::Val)>,
+    keep: Vec<S::Key>,
+    fixed: Facts<S::Key, S::Val>,
+    limit: u64,
+) -> Result<Closed<Local<'a, S>>, GrowRefusal>
+    requires { IsRestriction S.Key.cmp (S.rules system.now) starts.items keep.items fixed }
+    ensures least { IfOk result (λ closed. IsLeastLocal S.Key.cmp (S.rules system.now) starts.items keep.items fixed (fact_at S.Key.cmp closed)) }
+    ensures within { IfOk result (λ closed. counted_keys (S.rules system.now) closed ≤ limit) }
+    ensures nodes { IfErr result (IsTooBig S.Key.cmp (restricted S.Key.cmp (S.rules system.now) starts.items keep.items fixed) limit) }
+{
+    let local = Local::new(system, starts, keep, fixed);
+    let mut core = Core::new(alloc, &local, limit)?;
+    drive(alloc, &mut core, &local)?;
+    match core.close() {
+        Ok(closed) => Ok(closed),
+        Err(_) => unreachable!(),
+    }
+}
