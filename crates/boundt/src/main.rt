@@ -35,13 +35,23 @@ fn run<R: Runtime + AllocGlobal>(rt: &R) -> io::Result<Status> {
     Ok(run_alone(rt.alloc(), &words, &mut shelf, &mut out))
 }
 
+/// Shows the message of a status on standard error.
+fn show<R: Runtime + AllocGlobal>(rt: &R, status: &Status) -> io::Result<()> {
+    match status.message(rt.alloc()) {
+        Ok(message) => eprintln!(rt; "{message}"),
+        Err(_) => eprintln!(rt; "boundt: 8 Want"),
+    }
+}
+
+/// Whatever fails here, the exit status is that of the call's answer: a shelf or a sink that can't be made is want of
+/// memory, and a message that can't be shown changes nothing.
 fn main(rt: HostRuntime) -> io::Result<ExitCode> {
-    let status = run(&rt)?;
+    let status = match run(&rt) {
+        Ok(status) => status,
+        Err(_) => Status::Want,
+    };
     if status.code() >= 2 {
-        match status.message(rt.alloc()) {
-            Ok(message) => eprintln!(rt; "{message}")?,
-            Err(_) => eprintln!(rt; "boundt: 8 Want")?,
-        }
+        let _shown = show(&rt, &status);
     }
     Ok(ExitCode::from(status.code()))
 }

@@ -18,7 +18,7 @@ use Rattle.cycle_table.specs.Table.{table_of}
 use Rattle.sparc_machine.specs.Straight.{IsStraight}
 
 -- what a file agrees with is what it tells
-agrees : (told : Option (List ℕ)) (bytes those : List ℕ) → AgreesWith told bytes → told ≡ Some those → bytes ≡ those
+pub agrees : (told : Option (List ℕ)) (bytes those : List ℕ) → AgreesWith told bytes → told ≡ Some those → bytes ≡ those
 agrees None bytes those h e = cc
 agrees (Some x) bytes those h e = cc
 

@@ -1,9 +1,10 @@
 -- What a call of the program answers to its words.
-use Rattle.std.specs.Prelude.{◌≡◌, ℕ, List, Option}
+use Rattle.std.specs.Prelude.{◌≡◌, ℕ, List}
 use Rattle.bt_words.specs.Request.{Asked, bounds, lists, IsRequest, IsRefused}
 use Rattle.bt_command.specs.Bound.{BoundSays, BoundIsWhole}
 use Rattle.bt_command.specs.Call.{Call}
 use Rattle.bt_command.specs.Decode.{DecodeSays, DecodeIsWhole}
+use Rattle.bt_command.specs.Order.{BoundIsExact, DecodeIsExact}
 use Rattle.bt_command.specs.declared.status.Status.{Status}
 use Rattle.bt_command.specs.declared.status.Status.TheVariants.{Bounded, Usage, WriteFault, Want}
 
@@ -19,15 +20,32 @@ IsWhole (bounds image cycles assertions workers) call status =
     BoundIsWhole (record { image = image; cycles = cycles; assertions = assertions }) call status
 IsWhole (lists image) call status = DecodeIsWhole image call status
 
--- with any status but that of the whole text and that of a text cut short nothing was written
-abbrev pub Writes : Option (List ℕ) → Option (List ℕ) → Status → Type 0
-Writes old new Bounded = Unit {0}
-Writes old new (WriteFault written) = Unit {0}
-Writes old new _ = new ≡ old
+-- where the files are told and no fault rises, the status is what their bytes come to in the order of refusals, but for
+-- want of memory
+abbrev pub IsExact : Asked → Call → Status → Type 0
+IsExact (bounds image cycles assertions workers) call status =
+    BoundIsExact (record { image = image; cycles = cycles; assertions = assertions }) call status
+IsExact (lists image) call status = DecodeIsExact image call status
 
--- what a call answers: that the words are refused, that memory is wanting, or to what they ask for
+-- nothing was put into the sink: it tells what it told, and its count of faults stands
+pub record PutsNothing (call : Call) : Type 0 where
+  pub told : call.written_after ≡ call.written
+  pub faults : call.sink_faults_after ≡ call.sink_faults
+
+-- nothing was fetched: no count of faults of the shelf has moved
+abbrev pub FetchesNothing : Call → Type 0
+FetchesNothing call = call.faults_after ≡ call.faults
+
+-- with any status but that of the whole text and that of a text cut short nothing was put into the sink
+abbrev pub Writes : Call → Status → Type 0
+Writes call Bounded = Unit {0}
+Writes call (WriteFault written) = Unit {0}
+Writes call _ = PutsNothing call
+
+-- what a call answers: that the words are refused, before anything is read, that memory is wanting, or to what they
+-- ask for
 pub data Answers (words : List (List ℕ)) (call : Call) : Status → Type 0 where
-  refused : IsRefused words → Answers words call Usage
+  refused : IsRefused words → FetchesNothing call → Answers words call Usage
   wanting : Answers words call Want
   answered : (asked : Asked) {status : Status} → IsRequest words asked → Says asked call status → IsWhole asked call status
-      → Answers words call status
+      → IsExact asked call status → Answers words call status

@@ -7,9 +7,8 @@ use Rattle.assert_lang.specs.Text.{assertions_of}
 use Rattle.assert_lang.specs.declared.assertion.Assertion.{Assertion}
 use Rattle.bt_image.specs.Refusal.{first_refusal}
 use Rattle.cycle_table.specs.Table.{table_of}
-use Rattle.bt_command.specs.Call.{Call, RoseFor, RoseForSink, IsTooLong, HasImage, HasCosts, HasAssertions, IsNoImage, IsNoTable, StatesNothing, AcceptsImage, AcceptsCosts, IsWritten, IsCutShort}
+use Rattle.bt_command.specs.Call.{Call, longest_image, longest_table, longest_assertions, RoseFor, RoseForSink, IsTooLong, HasImage, HasCosts, HasAssertions, IsNoImage, IsNoTable, StatesNothing, AcceptsImage, AcceptsCosts, IsWritten, IsCutShort}
 use Rattle.bt_command.specs.Report.{one_root, IsReportOf}
-use Rattle.bt_command.specs.declared.inputs.TheConstants.{IMAGE_LIMIT, TABLE_LIMIT, ASSERTIONS_LIMIT}
 use Rattle.bt_command.specs.declared.status.AssertFault.{AssertFault}
 use Rattle.bt_command.specs.declared.status.LimitFault.TheVariants.{TooLong}
 use Rattle.bt_command.specs.declared.status.Status.{Status}
@@ -68,9 +67,9 @@ name_of_file names (suc (suc zero)) = names.cycles
 name_of_file names _ = names.assertions
 
 abbrev pub limit_of_file : ℕ → ℕ
-limit_of_file (suc zero) = IMAGE_LIMIT
-limit_of_file (suc (suc zero)) = TABLE_LIMIT
-limit_of_file _ = ASSERTIONS_LIMIT
+limit_of_file (suc zero) = longest_image
+limit_of_file (suc (suc zero)) = longest_table
+limit_of_file _ = longest_assertions
 
 -- a read of this file has failed, and the files before it are accepted
 pub record CantBeRead (call : Call) (names : Names) (file : ℕ) : Type 0 where
@@ -113,16 +112,16 @@ BoundSays names call (NotYet file) = IsNotBuiltYet call names file
 pub record AreAccepted (call : Call) (names : Names) (entry count : ℕ) : Type 0 where
   pub image : List ℕ
   pub image_is : call.told names.image ≡ Some image
-  pub image_within : length image ≤ IMAGE_LIMIT
+  pub image_within : length image ≤ longest_image
   pub image_accepted : first_refusal image ≡ None
   pub table : List ℕ
   pub table_is : call.told names.cycles ≡ Some table
-  pub table_within : length table ≤ TABLE_LIMIT
+  pub table_within : length table ≤ longest_table
   pub costs : List ℕ
   pub table_accepted : table_of table ≡ Ok costs
   pub text : List ℕ
   pub text_is : call.told names.assertions ≡ Some text
-  pub text_within : length text ≤ ASSERTIONS_LIMIT
+  pub text_within : length text ≤ longest_assertions
   pub list : List Assertion
   pub text_accepted : assertions_of text ≡ Ok list
   pub those : List BoundAssertion

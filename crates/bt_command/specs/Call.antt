@@ -10,7 +10,6 @@ use Rattle.bt_base.specs.Shelf.{Rose}
 use Rattle.bt_base.specs.Sink.{Appended}
 use Rattle.bt_image.specs.Refusal.{first_refusal}
 use Rattle.bt_image.specs.declared.refusal.ImageRefusal.{ImageRefusal}
-use Rattle.bt_command.specs.declared.inputs.TheConstants.{IMAGE_LIMIT, TABLE_LIMIT, ASSERTIONS_LIMIT}
 use Rattle.bt_command.specs.declared.status.AssertFault.{AssertFault}
 use Rattle.bt_command.specs.declared.status.AssertFault.TheVariants.{Parse, Bind}
 use Rattle.cycle_table.specs.Table.{table_of}
@@ -26,6 +25,18 @@ pub record Call : Type 0 where
   pub written_after : Option (List ℕ)
   pub sink_faults : ℕ
   pub sink_faults_after : ℕ
+
+-- the most bytes of an image, 16 MiB
+abbrev pub longest_image : ℕ
+longest_image = 16777216
+
+-- the most bytes of a table of cycles, 1 MiB
+abbrev pub longest_table : ℕ
+longest_table = 1048576
+
+-- the most bytes of a file of assertions, 1 MiB
+abbrev pub longest_assertions : ℕ
+longest_assertions = 1048576
 
 -- the count of faults of a name has risen in the call
 abbrev pub RoseFor : Call → List ℕ → Type 0
@@ -50,13 +61,13 @@ IsTooLong told limit = IfSome told (λ bytes. limit < length bytes)
 
 -- the image that a file is
 pub record HasImage (told : Option (List ℕ)) (image : List ℕ) : Type 0 where
-  pub file : HasFile told IMAGE_LIMIT image
+  pub file : HasFile told longest_image image
   pub accepted : first_refusal image ≡ None
 
 -- a file is no image, and this is the first refusal of its bytes
 pub record IsNoImage (told : Option (List ℕ)) (refusal : ImageRefusal) : Type 0 where
   pub image : List ℕ
-  pub file : HasFile told IMAGE_LIMIT image
+  pub file : HasFile told longest_image image
   pub refused : first_refusal image ≡ Some refusal
 
 -- some image is accepted
@@ -67,13 +78,13 @@ pub record AcceptsImage (told : Option (List ℕ)) : Type 0 where
 -- the costs of the table of cycles that a file is
 pub record HasCosts (told : Option (List ℕ)) (costs : List ℕ) : Type 0 where
   pub table : List ℕ
-  pub file : HasFile told TABLE_LIMIT table
+  pub file : HasFile told longest_table table
   pub accepted : table_of table ≡ Ok costs
 
 -- a file is no table of cycles, and this is the first refusal of its bytes
 pub record IsNoTable (told : Option (List ℕ)) (refusal : CycleRefusal) : Type 0 where
   pub table : List ℕ
-  pub file : HasFile told TABLE_LIMIT table
+  pub file : HasFile told longest_table table
   pub refused : table_of table ≡ Err refusal
 
 -- some table of cycles is accepted
@@ -84,7 +95,7 @@ pub record AcceptsCosts (told : Option (List ℕ)) : Type 0 where
 -- the assertions that a file states of an image
 pub record HasAssertions (told : Option (List ℕ)) (image : List ℕ) (those : List BoundAssertion) : Type 0 where
   pub text : List ℕ
-  pub file : HasFile told ASSERTIONS_LIMIT text
+  pub file : HasFile told longest_assertions text
   pub list : List Assertion
   pub parsed : assertions_of text ≡ Ok list
   pub bound : binding image list ≡ Ok those
@@ -92,13 +103,13 @@ pub record HasAssertions (told : Option (List ℕ)) (image : List ℕ) (those : 
 -- a file is no list of assertions, and this is the first refusal of its text
 pub record IsNoList (told : Option (List ℕ)) (refusal : AssertRefusal) : Type 0 where
   pub text : List ℕ
-  pub file : HasFile told ASSERTIONS_LIMIT text
+  pub file : HasFile told longest_assertions text
   pub refused : assertions_of text ≡ Err refusal
 
 -- the assertions of a file can't be bound to an image, and this is the refusal of the first that can't
 pub record IsUnbound (told : Option (List ℕ)) (image : List ℕ) (refusal : BindRefusal) : Type 0 where
   pub text : List ℕ
-  pub file : HasFile told ASSERTIONS_LIMIT text
+  pub file : HasFile told longest_assertions text
   pub list : List Assertion
   pub parsed : assertions_of text ≡ Ok list
   pub refused : binding image list ≡ Err refusal

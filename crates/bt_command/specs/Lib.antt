@@ -2,5 +2,6 @@ pub mod Answer
 pub mod Bound
 pub mod Call
 pub mod Decode
+pub mod Order
 pub mod Report
 pub mod Status

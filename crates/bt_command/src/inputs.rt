@@ -4,7 +4,7 @@ ghost use Rattle.bt_base.specs.Shelf.{TellsTheSame, NoneFalls, Rose};
 ghost use Rattle.bt_image.specs.declared.refusal.ImageRefusal.{ImageRefusal};
 ghost use Rattle.cycle_table.specs.declared.refusal.CycleRefusal.{CycleRefusal};
 ghost use Rattle.bt_command.specs.declared.status.AssertFault.{AssertFault};
-ghost use Rattle.bt_command.specs.Call.{HasFile, HasImage, HasCosts, HasAssertions, IsNoImage, IsNoTable, StatesNothing};
+ghost use Rattle.bt_command.specs.Call.{longest_image, longest_table, longest_assertions, HasFile, HasImage, HasCosts, HasAssertions, IsNoImage, IsNoTable, StatesNothing};
 
 use crate::AssertFault;
 use assert_bind::{BindRefusal, Binding, bind};
@@ -46,7 +46,7 @@ pub fn image_from<F: Shelf>(
     ensures counts { NoneFalls (F.faults shelf.old) (F.faults shelf.new) }
     ensures accepted { IfOk result (λ image. HasImage (F.told shelf.old name.now) image) }
     ensures fault { IsErrOf result NoFile.Fault → Rose (F.faults shelf.old name.now) (F.faults shelf.new name.now) }
-    ensures too_long { IsErrOf result NoFile.TooLong → IfSome (F.told shelf.old name.now) (λ bytes. IMAGE_LIMIT < length bytes) }
+    ensures too_long { IsErrOf result NoFile.TooLong → IfSome (F.told shelf.old name.now) (λ bytes. longest_image < length bytes) }
     ensures refused { (refusal : ImageRefusal) → IsErrOf result (NoFile.Refused refusal) →
         IsNoImage (F.told shelf.old name.now) refusal }
 {
@@ -73,7 +73,7 @@ pub fn cycles_from<F: Shelf>(
     ensures counts { NoneFalls (F.faults shelf.old) (F.faults shelf.new) }
     ensures accepted { IfOk result (λ cycles. HasCosts (F.told shelf.old name.now) cycles) }
     ensures fault { IsErrOf result NoFile.Fault → Rose (F.faults shelf.old name.now) (F.faults shelf.new name.now) }
-    ensures too_long { IsErrOf result NoFile.TooLong → IfSome (F.told shelf.old name.now) (λ bytes. TABLE_LIMIT < length bytes) }
+    ensures too_long { IsErrOf result NoFile.TooLong → IfSome (F.told shelf.old name.now) (λ bytes. longest_table < length bytes) }
     ensures refused { (refusal : CycleRefusal) → IsErrOf result (NoFile.Refused refusal) →
         IsNoTable (F.told shelf.old name.now) refusal }
 {
@@ -100,7 +100,7 @@ pub fn assertions_from<F: Shelf>(
     ensures counts { NoneFalls (F.faults shelf.old) (F.faults shelf.new) }
     ensures accepted { IfOk result (λ binding. HasAssertions (F.told shelf.old name.now) image.now binding) }
     ensures fault { IsErrOf result NoFile.Fault → Rose (F.faults shelf.old name.now) (F.faults shelf.new name.now) }
-    ensures too_long { IsErrOf result NoFile.TooLong → IfSome (F.told shelf.old name.now) (λ bytes. ASSERTIONS_LIMIT < length bytes) }
+    ensures too_long { IsErrOf result NoFile.TooLong → IfSome (F.told shelf.old name.now) (λ bytes. longest_assertions < length bytes) }
     ensures refused { (fault : AssertFault) → IsErrOf result (NoFile.Refused fault) →
         StatesNothing (F.told shelf.old name.now) image.now fault }
 {

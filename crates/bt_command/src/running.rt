@@ -37,7 +37,15 @@ fn bound<F: Shelf, K: Sink>(
       sink_faults = K.faults out.old;
       sink_faults_after = K.faults out.new;
     }) result }
-    ensures writes { Writes (K.told out.old) (K.told out.new) result }
+    ensures writes { Writes (record {
+      told = F.told shelf.old;
+      faults = F.faults shelf.old;
+      faults_after = F.faults shelf.new;
+      written = K.told out.old;
+      written_after = K.told out.new;
+      sink_faults = K.faults out.old;
+      sink_faults_after = K.faults out.new;
+    }) result }
 {
     let image = match image_from(alloc, shelf, image) {
         Ok(image) => image,
@@ -106,7 +114,15 @@ fn decode<F: Shelf, K: Sink>(alloc: Global, image: &str, shelf: &mut F, out: &mu
       sink_faults = K.faults out.old;
       sink_faults_after = K.faults out.new;
     }) result }
-    ensures writes { Writes (K.told out.old) (K.told out.new) result }
+    ensures writes { Writes (record {
+      told = F.told shelf.old;
+      faults = F.faults shelf.old;
+      faults_after = F.faults shelf.new;
+      written = K.told out.old;
+      written_after = K.told out.new;
+      sink_faults = K.faults out.old;
+      sink_faults_after = K.faults out.new;
+    }) result }
 {
     let image = match image_from(alloc, shelf, image) {
         Ok(image) => image,
@@ -150,7 +166,8 @@ pub fn run_alone<F: Shelf, K: Sink>(
     ensures same { TellsTheSame (F.told shelf.old) (F.told shelf.new) }
     ensures counts { NoneFalls (F.faults shelf.old) (F.faults shelf.new) }
     ensures sink_counts { K.faults out.old ≤ K.faults out.new }
-    // The words are refused, or what the status says of the call is true and accepted files give the whole text.
+    // The words are refused, or what the status says of the call is true, accepted files give the whole text, and files
+    // that are told come to the first refusal of their bytes.
     ensures answers { Answers (texts words.now) (record {
       told = F.told shelf.old;
       faults = F.faults shelf.old;
@@ -160,8 +177,16 @@ pub fn run_alone<F: Shelf, K: Sink>(
       sink_faults = K.faults out.old;
       sink_faults_after = K.faults out.new;
     }) result }
-    // With any status but that of the whole text and that of a text cut short nothing was written.
-    ensures writes { Writes (K.told out.old) (K.told out.new) result }
+    // With any status but that of the whole text and that of a text cut short nothing was put into the sink.
+    ensures writes { Writes (record {
+      told = F.told shelf.old;
+      faults = F.faults shelf.old;
+      faults_after = F.faults shelf.new;
+      written = K.told out.old;
+      written_after = K.told out.new;
+      sink_faults = K.faults out.old;
+      sink_faults_after = K.faults out.new;
+    }) result }
 {
     match request_of(alloc, words) {
         Ok(

@@ -4,7 +4,6 @@ use Rattle.std.specs.Str.{bytes_eq}
 use Rattle.cycle_table.specs.Class.{class_named}
 use Rattle.line_text.specs.LineText.{uncommented, words_of}
 use Rattle.line_text.specs.Numeral.{number_up_to}
-use Rattle.cycle_table.specs.declared.reading.TheConstants.{MOST}
 use Rattle.cycle_table.specs.declared.refusal.Why.{Why}
 use Rattle.cycle_table.specs.declared.refusal.Why.TheVariants.{Class, Number, Extra}
 use Rattle.sparc_decode.specs.declared.cost_class.CostClass.{CostClass}
@@ -35,10 +34,14 @@ ends_with class None more = Err Number
 ends_with class (Some cost) [] = Ok (class, cost)
 ends_with class (Some cost) (word ∷ more) = Err Extra
 
+-- the greatest cost
+abbrev pub greatest_cost : ℕ
+greatest_cost = 1000000
+
 -- what follows the name of a class
 abbrev pub costs_as : CostClass → List (List ℕ) → Result (CostClass × ℕ) Why
 costs_as class [] = Err Number
-costs_as class (word ∷ more) = ends_with class (number_up_to MOST word) more
+costs_as class (word ∷ more) = ends_with class (number_up_to greatest_cost word) more
 
 -- a name of a class and what follows it
 abbrev pub names_as : Option CostClass → List (List ℕ) → Result (CostClass × ℕ) Why

@@ -2,7 +2,7 @@
 ghost use Rattle.std.specs.Prelude.{◌≡◌, ◌+◌, ◌^◌, ◌<◌, ◌≤◌, ◌==◌, ℕ, [], ◌∷◌, length, None, Some, Ok, All, slice_set, MatchOption, MatchResult, IfOk, IfSome, OnOk};
 ghost use Rattle.std.specs.Str.Lines.{lines};
 ghost use Rattle.cycle_table.specs.Class.{place_of};
-ghost use Rattle.cycle_table.specs.Row.{rows_from, is_header, says, costs_as};
+ghost use Rattle.cycle_table.specs.Row.{rows_from, is_header, says, greatest_cost, costs_as};
 ghost use Rattle.cycle_table.specs.Table.{body_of, completed, fault_said, AreCosts};
 ghost use Rattle.line_text.specs.LineText.{words_of};
 ghost use Rattle.line_text.specs.Numeral.{number_up_to};
@@ -67,7 +67,7 @@ pub fn is_header(name: &[u8], words: &[u8]) -> bool
 
 /// The cost that a word is, if it is one.
 fn cost_of(word: &[u8]) -> Option<u32>
-    ensures value { result ≡ number_up_to MOST word.now }
+    ensures value { result ≡ number_up_to greatest_cost word.now }
     ensures most { IfSome result (λ cost. cost ≤ 1000000) }
 {
     match number_up_to(word, MOST) {

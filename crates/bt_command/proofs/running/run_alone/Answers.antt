@@ -2,21 +2,22 @@ use Rattle.std.proofs.Common.{rules, subst}
 use Rattle.bt_words.specs.Request.{IsRequest, asked_of, texts}
 use Rattle.bt_words.specs.declared.request.Request.{Request}
 use Rattle.bt_command.specs.Answer.{refused, wanting, answered}
+use Rattle.bt_command.proofs.Exact.{bound_exact, decode_exact}
 use Rattle.bt_command.proofs.Wholes.{bound_whole, decode_whole}
 use Rattle.bt_command.proofs.running.run_alone.Goals as goal
 
 pub returns-in-Ok-Bound-clause-answers : goal.returns-in-Ok-Bound-clause-answers
 returns-in-Ok-Bound-clause-answers g c =
     answered _ (subst (λ (r : Request). IsRequest (texts c.args.words.now) (asked_of r)) c.in-Ok-Bound.field-0-is c.in-Ok-Bound.ensures.ok)
-    c.bound.ensures.says (bound_whole _ _ _ c.bound.ensures.says)
+    c.bound.ensures.says (bound_whole _ _ _ c.bound.ensures.says) (bound_exact _ _ _ c.bound.ensures.says)
 
 pub returns-in-Ok-Decode-clause-answers : goal.returns-in-Ok-Decode-clause-answers
 returns-in-Ok-Decode-clause-answers g c =
     answered _ (subst (λ (r : Request). IsRequest (texts c.args.words.now) (asked_of r)) c.in-Ok-Decode.field-0-is c.in-Ok-Decode.ensures.ok)
-    c.decode.ensures.says (decode_whole _ _ _ c.decode.ensures.says)
+    c.decode.ensures.says (decode_whole _ _ _ c.decode.ensures.says) (decode_exact _ _ _ c.decode.ensures.says)
 
 pub returns-in-Err-Usage-clause-answers : goal.returns-in-Err-Usage-clause-answers
-returns-in-Err-Usage-clause-answers g c = let usage = c.in-Err-Usage.ensures.usage in refused (usage (search rules))
+returns-in-Err-Usage-clause-answers g c = let usage = c.in-Err-Usage.ensures.usage in refused (usage (search rules)) (search rules)
 
 pub returns-in-Err-Want-clause-answers : goal.returns-in-Err-Want-clause-answers
 returns-in-Err-Want-clause-answers g c = wanting
