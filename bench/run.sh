@@ -36,7 +36,7 @@ line() {
     shift 2
     if [ $# -gt 0 ] && command -v "$1" >/dev/null 2>&1; then
         theirs=$(seconds "$@")
-        echo "$what|$ours|$1 $theirs|$(echo "$ours $theirs" | awk '{ printf "%.2f", $1 / $2 }')"
+        echo "$what|$ours|${1##*-} $theirs|$(echo "$ours $theirs" | awk '{ printf "%.2f", $1 / $2 }')"
     else
         echo "$what|$ours|-|-"
     fi
