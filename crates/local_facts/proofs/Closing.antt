@@ -59,6 +59,25 @@ module _ {K V : Type 0} (cmp : K → K → Ordering) (m : Rules K V) (law : IsLa
   within_of r facts facts' limit limit' is within same to =
       subst (λ n. counted_keys m facts' ≤ n) to (subst (λ x. counted_keys m x ≤ limit) (sym same) (subst (λ x. counted_keys x facts ≤ limit) is within))
 
+module _ {K V : Type 0} (cmp : K → K → Ordering) (m : Rules K V) (law : IsLawful cmp m) (starts : List (K × V)) (keep : List K) (fixed : List (K × V)) where
+  -- the facts of two least maps at a key are the same
+  pub least_same : (s t : K → Option V) → IsLeastLocal cmp m starts keep fixed s → IsLeastLocal cmp m starts keep fixed t → (k : K) → s k ≡ t k
+  least_same s t first second k = same_cases (s k) (t k) refl refl
+    where
+      fact_same : (v w : V) → s k ≡ Some v → t k ≡ Some w → v ≡ w
+      fact_same v w here there =
+          let up = first.least t second.closed k v here in
+          let down = second.least s first.closed k w there in
+          let is_w : up.fact ≡ w = let f = up.found in cc in
+          let is_v : down.fact ≡ v = let f = down.found in cc in
+          law.order.both k v w (first.closed.fit k v here) (second.closed.fit k w there) (subst (λ x. IsTrue (m.at_most v x)) is_w up.above) (subst (λ x. IsTrue (m.at_most w x)) is_v down.above)
+
+      same_cases : (o p : Option V) → s k ≡ o → t k ≡ p → s k ≡ t k
+      same_cases None None here there = cc
+      same_cases None (Some w) here there = let found = (second.least s first.closed k w there).found in absurd (cc)
+      same_cases (Some v) None here there = let found = (first.least t second.closed k v here).found in absurd (cc)
+      same_cases (Some v) (Some w) here there = let is = fact_same v w here there in cc
+
 -- where the start pieces alone pass the limit, so does each closed state
 pub passing_is_too_big : {K V : Type 0} (cmp : K → K → Ordering) (r q : Rules K V) (limit : ℕ) → r ≡ q → (refusal : GrowRefusal) → IsPassing cmp r [] r.starts limit refusal → IsTooBig cmp q limit refusal
 passing_is_too_big {K} {V} cmp r q limit is refusal passing = too_big refusal (subst (λ (x : Rules K V). IsPassing cmp x [] x.starts limit refusal) is passing)

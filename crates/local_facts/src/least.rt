@@ -23,6 +23,14 @@ pub fn due_is_least<S: System>(_system: &S)
         → IsDueGraph (restricted S.Key.cmp (S.rules _system.now) starts keep fixed) s }
 {}
 
+/// There is at most one least map over the kept keys: two have the same fact at each key, or none.
+pub fn least_is_one<S: System>(_system: &S)
+    ensures { (starts : List (S.Key × S.Val)) (keep : List S.Key) (fixed : List (S.Key × S.Val)) (s t : S.Key → Option S.Val)
+        → IsLeastLocal S.Key.cmp (S.rules _system.now) starts keep fixed s
+        → IsLeastLocal S.Key.cmp (S.rules _system.now) starts keep fixed t
+        → (k : S.Key) → s k ≡ t k }
+{}
+
 /// Drives a restricted system: the least map over the kept keys that contains the start pieces, and what its keys
 /// give to kept keys with the fixed facts beside it.
 ///

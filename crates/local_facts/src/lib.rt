@@ -6,7 +6,7 @@ mod keeping;
 mod least;
 mod local;
 
-pub use least::{due_is_least, least_facts};
+pub use least::{due_is_least, least_facts, least_is_one};
 pub use local::Local;
 
 #[cfg(test)]

@@ -9,7 +9,7 @@ mod seat;
 mod shards;
 mod slots;
 
-pub use laws::{parts_have_one_holder, steps_keep_the_rule};
+pub use laws::{parts_have_one_holder, parts_keep_the_rule, steps_keep_the_rule};
 pub use seat::ShardSeat;
 pub use shards::Shards;
 

@@ -62,7 +62,7 @@ impl<T> Shards<T> {
         requires other_of { other.of ≡ self.now }
         requires other_held { other.held ≡ [] }
         ensures seat { seat.new ≡ record { of = seat.old.of; held = seat.old.held; weight = seat.old.weight + other.weight } }
-        ensures other { 1 ≤ other.weight }
+        ensures heavy { (1 ≤ seat.old.weight) × (1 ≤ other.weight) }
     {
         let ShardSeat { seat: joined } = other;
         self.table.shared.join_seat::<Both>(&mut seat.seat, joined);
@@ -74,7 +74,8 @@ impl<T> Shards<T> {
         requires of { seat.old.of ≡ self.now }
         requires part { n < count_of self.now }
         requires lacks { Lacks seat.old.held n }
-        ensures { MatchOption result ((seat.new ≡ seat.old) × (seat.old.weight < 128)) (λ _. HoldsNow seat.old seat.new (n ∷ seat.old.held)) }
+        ensures heavy { 1 ≤ seat.old.weight }
+        ensures taken { MatchOption result ((seat.new ≡ seat.old) × (seat.old.weight < 128)) (λ _. HoldsNow seat.old seat.new (n ∷ seat.old.held)) }
     {
         let shared = &self.table.shared;
         let found = shared.swap::<Taking>(&mut seat.seat, n as usize, 0);
@@ -117,7 +118,8 @@ impl<T: Drop> Shards<T> {
     pub fn put_shard(&self, seat: &mut ShardSeat<T>, n: u32, part: T)
         requires of { seat.old.of ≡ self.now }
         requires holds { Holds seat.old.held n }
-        ensures { HoldsNow seat.old seat.new (without n seat.old.held) }
+        ensures heavy { 1 ≤ seat.old.weight }
+        ensures put { HoldsNow seat.old seat.new (without n seat.old.held) }
     {
         let shared = &self.table.shared;
         shared.load::<Reaching>(&mut seat.seat, n as usize);
