@@ -194,6 +194,15 @@ none_free costs class none within =
     let fails : eqb (cost_at costs (get_or classes (place_of class) Unmodelled)) 0 ≡ false = none_found (λ c. eqb (cost_at costs c) 0) classes (place_of class) Unmodelled none within in
     eqb-false (cost_at costs class) 0 (subst (λ (c : CostClass). eqb (cost_at costs c) 0 ≡ false) (class_at class) fails)
 
+-- where no class is missing, each costs at least 1
+pub none_missing : (costs : List ℕ) (class : CostClass) → first_free costs ≡ None → place_of class < 27 → 1 ≤ cost_at costs class
+none_missing costs class none within =
+    let some = none_free costs class none within in
+    elim (cases_eq (cost_at costs class) 0) [
+      | inl free ↦ absurd (some free)
+      | inr paid ↦ omega arith
+    ]
+
 -- what a line gives is part of what all give
 part_of : (rows : List Row) (k : ℕ) (row : Row) (place : ℕ) → slice_get rows k ≡ Some row → cost_for (says row.words) place ≤ cost_in rows place
 part_of [] k row place stands = cc

@@ -1,5 +1,5 @@
 -- The table of a text: what each class costs, or why the text is no table.
-use Rattle.std.specs.Prelude.{◌==◌, ◌≡◌, ℕ, ◌≤◌, if◌then◌else◌, List, [], ◌∷◌, ◌++◌, length, map, sum_by, All, Option, Some, None, Result, Ok, Err}
+use Rattle.std.specs.Prelude.{◌==◌, ◌≡◌, ℕ, ◌<◌, ◌≤◌, if◌then◌else◌, List, [], ◌∷◌, ◌++◌, length, map, sum_by, All, Option, Some, None, Result, Ok, Err}
 use Rattle.std.specs.List.{range_with_len}
 use Rattle.std.specs.Str.Lines.{lines}
 use Rattle.cycle_table.specs.Class.{place_of, cost_at, first_free}
@@ -69,7 +69,8 @@ headed (row ∷ body) = if is_header row.words then body_of body else Err (Line 
 unfoldable pub table_of : List ℕ → Result (List ℕ) CycleRefusal
 table_of text = headed (rows_from 1 (lines text))
 
--- costs of 27 classes, each at most 1,000,000
+-- costs of 27 classes, each from 1 to 1,000,000
 pub record AreCosts (costs : List ℕ) : Type 0 where
   pub count : length costs ≡ 27
+  pub least : (class : CostClass) → place_of class < 27 → 1 ≤ cost_at costs class
   pub most : All (λ cost. cost ≤ 1000000) costs

@@ -129,7 +129,9 @@ fn put(
 
 /// The costs, where no class is missing.
 fn completed(costs: [u32; COUNT]) -> Result<[u32; COUNT], CycleRefusal>
-    ensures { result ≡ completed costs }
+    requires { All (λ cost. cost ≤ 1000000) costs }
+    ensures value { result ≡ completed costs }
+    ensures costs { IfOk result AreCosts }
 {
     match classes::first_free(&costs) {
         None => Ok(costs),
