@@ -3,5 +3,6 @@ pub mod Columns
 pub mod Grammars
 pub mod HexDigits
 pub mod Misfits
+pub mod Partings
 pub mod Phrases
 pub mod PlaceLists

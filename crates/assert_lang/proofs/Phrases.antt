@@ -8,7 +8,7 @@ use Rattle.line_text.proofs.LineTexts.{drop_one, position_le, unblanked_first}
 use Rattle.assert_lang.specs.Phrase.{Token, is_comma, is_plain, head_of, tokens_from}
 
 -- how many bytes of a word are at the head of these
-abbrev more_of : List ℕ → ℕ
+abbrev pub more_of : List ℕ → ℕ
 more_of xs = position_or_len (λ c. not (is_plain c)) xs
 
 -- a comma is no blank
@@ -16,7 +16,7 @@ blank_no_comma : (x : ℕ) → is_blank x ≡ true → is_comma x ≡ false
 blank_no_comma x blank = ne_eqb x 44 (λ comma. (let e = subst (λ (n : ℕ). is_blank n ≡ true) comma blank in cc))
 
 -- a blank in front of words
-blank_first : (column x : ℕ) (xs : List ℕ) → is_blank x ≡ true → tokens_from column false (x ∷ xs) ≡ tokens_from (column + 1) false xs
+pub blank_first : (column x : ℕ) (xs : List ℕ) → is_blank x ≡ true → tokens_from column false (x ∷ xs) ≡ tokens_from (column + 1) false xs
 blank_first column x xs blank = rw (blank, blank_no_comma x blank) refl
 
 left_le : (xs : List ℕ) → length (unblanked xs) ≤ length xs
@@ -72,19 +72,19 @@ rest_of_word column (y ∷ ys) = elim (cases_Bool (is_plain y)) [
       parted column y ys parts ∙ (λ i. tokens_from (n i) false (back i))
 ]
 
-take_one : (n x : ℕ) (xs : List ℕ) → take (1 + n) (x ∷ xs) ≡ x ∷ take n xs
+pub take_one : (n x : ℕ) (xs : List ℕ) → take (1 + n) (x ∷ xs) ≡ x ∷ take n xs
 take_one n x xs = let more : 1 + n ≡ suc n = omega arith in rw more refl
 
 -- the head of some bytes that begin with no comma
-head_plain : (x : ℕ) (xs : List ℕ) → is_comma x ≡ false → head_of (x ∷ xs) ≡ x ∷ take (more_of xs) xs
+pub head_plain : (x : ℕ) (xs : List ℕ) → is_comma x ≡ false → head_of (x ∷ xs) ≡ x ∷ take (more_of xs) xs
 head_plain x xs other = rw other refl
 
-head_plain_len : (x : ℕ) (xs : List ℕ) → is_comma x ≡ false → length (head_of (x ∷ xs)) ≡ 1 + more_of xs
+pub head_plain_len : (x : ℕ) (xs : List ℕ) → is_comma x ≡ false → length (head_of (x ∷ xs)) ≡ 1 + more_of xs
 head_plain_len x xs other =
     let same : length (head_of (x ∷ xs)) ≡ length (x ∷ take (more_of xs) xs) = ap length (head_plain x xs other) in
     omega (arith, same, length-take (more_of xs) xs, position_le (λ c. not (is_plain c)) xs)
 
-head_comma : (x : ℕ) (xs : List ℕ) → is_comma x ≡ true → head_of (x ∷ xs) ≡ x ∷ []
+pub head_comma : (x : ℕ) (xs : List ℕ) → is_comma x ≡ true → head_of (x ∷ xs) ≡ x ∷ []
 head_comma x xs comma = rw comma refl
 
 -- the head stands at the front
@@ -95,7 +95,7 @@ head_front x xs = elim (cases_Bool (is_comma x)) [
 ]
 
 -- a byte that is no blank and no comma is plain
-plain_byte : (x : ℕ) → is_blank x ≡ false → is_comma x ≡ false → is_plain x ≡ true
+pub plain_byte : (x : ℕ) → is_blank x ≡ false → is_comma x ≡ false → is_plain x ≡ true
 plain_byte x lacks other = rw (lacks, other) refl
 
 comma_parts : (x : ℕ) → is_comma x ≡ true → is_plain x ≡ false
@@ -109,7 +109,7 @@ plain_first : (column x : ℕ) (xs : List ℕ) → is_comma x ≡ false → is_p
 plain_first column x xs other plain = rw (plain, other) refl
 
 -- a word at the head of some bytes, and the words behind it
-word_first : (column x : ℕ) (xs : List ℕ) → is_blank x ≡ false
+pub word_first : (column x : ℕ) (xs : List ℕ) → is_blank x ≡ false
     → tokens_from column false (x ∷ xs) ≡ record { word = head_of (x ∷ xs); column = column } ∷ tokens_from (column + length (head_of (x ∷ xs))) false (drop (length (head_of (x ∷ xs))) (x ∷ xs))
 word_first column x xs lacks = elim (cases_Bool (is_comma x)) [
   | inl comma ↦

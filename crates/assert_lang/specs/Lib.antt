@@ -4,6 +4,7 @@ pub mod Grammar
 pub mod Keyword
 pub mod Misfit
 pub mod Number
+pub mod Parting
 pub mod Phrase
 pub mod Register
 pub mod Spot

@@ -2,10 +2,17 @@
 ghost use Rattle.assert_lang.specs.Column.{ColumnsAreRight};
 ghost use Rattle.assert_lang.specs.Grammar.{StatementsAreWritten};
 ghost use Rattle.assert_lang.specs.Misfit.{MisfitsAreFirst};
+ghost use Rattle.assert_lang.specs.Parting.{LinesAreParted};
 
 /// The words of a line stand in it at their columns, counted in bytes from 1.
 pub fn columns_are_right()
     ensures { ColumnsAreRight }
+{}
+
+/// A line is blanks and its words, in their order, and nothing else: a word is a comma, or all the bytes without
+/// blanks and commas that stand together.
+pub fn lines_are_parted()
+    ensures { LinesAreParted }
 {}
 
 /// A line is read as a statement exactly where its words write that one by the grammar.

@@ -16,7 +16,7 @@ mod statements;
 mod words;
 
 pub use assertion::{Assertion, Assertions, Body};
-pub use laws::{columns_are_right, misfits_are_first, statements_are_written};
+pub use laws::{columns_are_right, lines_are_parted, misfits_are_first, statements_are_written};
 pub use name::Name;
 pub use parsing::parse;
 pub use refusal::{AssertRefusal, Expected};
