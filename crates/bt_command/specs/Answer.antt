@@ -32,9 +32,9 @@ pub record PutsNothing (call : Call) : Type 0 where
   pub told : call.written_after ≡ call.written
   pub faults : call.sink_faults_after ≡ call.sink_faults
 
--- nothing was fetched: no count of faults of the shelf has moved
-abbrev pub FetchesNothing : Call → Type 0
-FetchesNothing call = call.faults_after ≡ call.faults
+-- no count of faults of the shelf has moved, which a call that fetches can't promise of every shelf
+abbrev pub LeavesFaults : Call → Type 0
+LeavesFaults call = call.faults_after ≡ call.faults
 
 -- with any status but that of the whole text and that of a text cut short nothing was put into the sink
 abbrev pub Writes : Call → Status → Type 0
@@ -42,10 +42,10 @@ Writes call Bounded = Unit {0}
 Writes call (WriteFault written) = Unit {0}
 Writes call _ = PutsNothing call
 
--- what a call answers: that the words are refused, before anything is read, that memory is wanting, or to what they
--- ask for
+-- what a call answers: that the words are refused, with the shelf's faults left as they were, that memory is wanting, or
+-- to what they ask for
 pub data Answers (words : List (List ℕ)) (call : Call) : Status → Type 0 where
-  refused : IsRefused words → FetchesNothing call → Answers words call Usage
+  refused : IsRefused words → LeavesFaults call → Answers words call Usage
   wanting : Answers words call Want
   answered : (asked : Asked) {status : Status} → IsRequest words asked → Says asked call status → IsWhole asked call status
       → IsExact asked call status → Answers words call status
