@@ -47,7 +47,8 @@ loop-shelf-preserved g c =
       piece = c.loop-shelf.invariant.piece;
       front = front_more _ _ _ _ _ _ _ same c.in_ok-count.ensures.grown c.loop-shelf.invariant.front c.in_ok-count.ensures.given;
       asked = read_more _ _ _ _ _ _ _ _ c.loop-shelf.invariant.asked (omega arith) c.in_ok-count.ensures.gave c.in_ok-count.ensures.grown;
-      within = within_more _ _ _ _ _ _ _ same c.loop-shelf.bytes.ok.0 c.read_piece.new.bytes.ok.0 c.in_ok-count.ensures.grown c.loop-shelf.invariant.within c.in_ok-count.ensures.given;
+      within = within_more _ _ _ _ _ _ _ same c.loop-shelf.bytes.ok.0 c.read_piece.new.bytes.ok.0 c.in_ok-count.ensures.grown c.loop-shelf.invariant.within
+          c.in_ok-count.ensures.given;
     }
 
 -- a front of more bytes than the limit allows shows that the file is longer
