@@ -1,6 +1,6 @@
 use Rattle.std.specs.Option.{option_map}
 use Rattle.edge_publish.specs.Look.{PassesNone}
-use Rattle.edge_publish.proofs.sight.next_key.Given as goal
+use Rattle.edge_publish.proofs.sight.next_receipt.Given as goal
 
 -- the receipt's pair hasn't been passed by
 abbrev pub invariant-loop-index : goal.invariant-loop-index

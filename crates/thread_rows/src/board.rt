@@ -1,4 +1,5 @@
-use super::*;
+//! The board: keys that are published and read by one thread and by two.
+use edge_publish::{About, Board, looks_give_own};
 use std::sync::Wait;
 use std::test::*;
 use std::thread;
@@ -27,6 +28,7 @@ fn one_key_is_read_back(rt: HostRuntime) -> Result<(), Fail> {
         panic!(rt; "the look ended");
     };
     assert_eq!(rt; (index, *key), (0, 7));
+    assert!(rt; look.receipt().is_some_and(|seen| seen.index() == 0));
     assert!(rt; look.next().is_none());
     assert!(rt; board.look(1, Some(&receipt)).next().is_none());
     Ok(())

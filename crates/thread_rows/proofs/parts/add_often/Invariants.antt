@@ -1,5 +1,5 @@
 use Rattle.std.proofs.Common.{◌≡◌}
-use Rattle.shard_slots.proofs.tests.add_often.Given as goal
+use Rattle.thread_rows.proofs.parts.add_often.Given as goal
 
 -- the seat is as it came
 abbrev pub invariant-loop-round : goal.invariant-loop-round

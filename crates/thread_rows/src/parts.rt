@@ -1,7 +1,8 @@
+//! Parts in slots: taken and put by one thread and by two.
 ghost use Rattle.std.specs.Prelude.{◌≡◌, ◌≢◌, ◌<◌, ◌≤◌, []};
 ghost use Rattle.shard_slots.specs.Shards.{count_of};
 
-use super::*;
+use shard_slots::{ShardSeat, Shards};
 use std::sync::Arc;
 use std::test::*;
 use std::thread;
