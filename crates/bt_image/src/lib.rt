@@ -24,6 +24,3 @@ mod values;
 
 pub use image::Image;
 pub use refusal::{Counted, ImageRefusal};
-
-#[cfg(test)]
-mod tests;

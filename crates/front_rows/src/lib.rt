@@ -2,4 +2,14 @@
 #![tactic(auto)]
 
 #[cfg(test)]
+mod assertions;
+#[cfg(test)]
 mod base;
+#[cfg(test)]
+mod bindings;
+#[cfg(test)]
+mod images;
+#[cfg(test)]
+mod lines;
+#[cfg(test)]
+mod words;

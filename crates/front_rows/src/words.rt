@@ -1,5 +1,5 @@
 //! Calls, and what their words ask for.
-use crate::{NoRequest, Request, request_of};
+use bt_words::{NoRequest, Request, request_of};
 use std::alloc::Global;
 use std::test::Fail;
 

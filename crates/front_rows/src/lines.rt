@@ -1,4 +1,5 @@
-use crate::*;
+//! Lines, their comments, their words and the numbers in them.
+use line_text::*;
 use std::process::Abort;
 
 #[test]

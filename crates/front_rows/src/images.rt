@@ -1,5 +1,5 @@
 //! Images in words, with their answers.
-use crate::{Counted, Image, ImageRefusal};
+use bt_image::{Counted, Image, ImageRefusal};
 use std::alloc::{AllocError, Global};
 use std::process::Abort;
 use std::test::Fail;

@@ -1,4 +1,5 @@
-use crate::*;
+//! Assertion files as statements, and what is misfitting in them.
+use assert_lang::*;
 use std::alloc::Global;
 use std::process::Abort;
 use std::test::Fail;

@@ -1,5 +1,5 @@
 //! Assertion files bound to a small image.
-use crate::*;
+use assert_bind::*;
 use assert_lang::parse;
 use bt_image::Image;
 use std::alloc::{AllocError, Global};
