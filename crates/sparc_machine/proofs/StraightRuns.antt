@@ -153,7 +153,7 @@ cost_of_word : (image costs : List ℕ) (before a this : ℕ) → code_word imag
 cost_of_word image costs before a this h = ap (λ (w : Option ℕ). cost_alone costs before (option_map instruction_of w)) h
 
 -- no registers that are loaded make an instruction cost more than all do
-pair_most : (costs : List ℕ) (before : ℕ) (i : Instr) → pair_of costs before i ≤ pair_of costs all_registers i
+pub pair_most : (costs : List ℕ) (before : ℕ) (i : Instr) → pair_of costs before i ≤ pair_of costs all_registers i
 pair_most costs before i = go (cases_eq (bit_and all_registers (mask_of (registers_read i))) 0) where
   go : (bit_and all_registers (mask_of (registers_read i)) ≡ 0) ⊎ (bit_and all_registers (mask_of (registers_read i)) ≢ 0) → pair_of costs before i ≤ pair_of costs all_registers i
   go (inl none) =

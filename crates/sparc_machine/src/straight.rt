@@ -28,6 +28,7 @@ pub struct Straight {
 }
 
 /// The words before the return of straight code.
+#[derive(Clone, Copy)]
 struct Before {
     /// How many there are.
     count: u32,
