@@ -1,0 +1,11 @@
+//! The worked rows of the crates that read files, executables, assertions and words, as tables of their calls.
+#![tactic(auto)]
+
+#[cfg(test)]
+mod decoder;
+#[cfg(test)]
+mod listing;
+#[cfg(test)]
+mod step;
+#[cfg(test)]
+mod table;
