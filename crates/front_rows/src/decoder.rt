@@ -177,11 +177,21 @@ fn decodes_operations(rt: HostRuntime) {
 fn decodes_multiplications(rt: HostRuntime) {
     let (rd, rs1, second) = (1, 2, THIRD);
     for (op3, cc) in [(0x0a, false), (0x0b, false), (0x1a, true), (0x1b, true)] {
-        let want = Instr::Multiply { cc, rd, rs1, second };
+        let want = Instr::Multiply {
+            cc,
+            rd,
+            rs1,
+            second,
+        };
         assert_eq!(rt; decode(0x8200_8003 | op3 << 19), want, "at op3 {op3:02x}");
     }
     for (op3, cc) in [(0x0e, false), (0x0f, false), (0x1e, true), (0x1f, true)] {
-        let want = Instr::Divide { cc, rd, rs1, second };
+        let want = Instr::Divide {
+            cc,
+            rd,
+            rs1,
+            second,
+        };
         assert_eq!(rt; decode(0x8200_8003 | op3 << 19), want, "at op3 {op3:02x}");
     }
 }
@@ -415,9 +425,7 @@ fn leaves_others_open(rt: HostRuntime) {
         assert_eq!(rt; decode(word), Instr::Unknown(word), "at {word:08x}");
     }
     assert_eq!(rt; decode(0x01c0_0000), Instr::Unmodelled(0x01c0_0000));
-    for op3 in [
-        0x09, 0x0d, 0x19, 0x1d, 0x2c, 0x2d, 0x2e, 0x2f, 0x3e, 0x3f,
-    ] {
+    for op3 in [0x09, 0x0d, 0x19, 0x1d, 0x2c, 0x2d, 0x2e, 0x2f, 0x3e, 0x3f] {
         let word = 0x8200_8003 | op3 << 19;
         assert_eq!(rt; decode(word), Instr::Unknown(word), "at {word:08x}");
     }

@@ -264,14 +264,18 @@ fn charges_uses_behind_loads(rt: HostRuntime) -> Result<(), Fail> {
         (ONES, [1, 2, 3, 4, 5, 6]),
         (DEAR_USES, [5, 10, 11, 12, 17, 18]),
     ] {
+        assert!(rt; table.len() < 10_000);
         let cycles = Cycles::read(table).ok().ok_or("no table")?;
         let mut m = entry();
-        m.regs[physical(3, 8)] = 0x4000_0000;
         m.loaded = u32::MAX;
         for (place, want) in spent.iter().enumerate() {
             assert!(rt; m.cwp == 3 && m.cycles < 100);
             m.regs[physical(3, 8)] = 0x4000_0000;
-            assert_eq!(rt; step(&mut m, &image, &cycles, FOUND), Ok(()), "step {place}");
+            assert_eq!(rt;
+                step(&mut m, &image, &cycles, FOUND),
+                Ok(()),
+                "step {place}"
+            );
             assert_eq!(rt; m.cycles, *want, "step {place}");
             let loaded = match place {
                 0 => 0x2,
@@ -308,11 +312,20 @@ fn multiplies_and_divides(rt: HostRuntime) -> Result<(), Fail> {
         m.regs[physical(3, 9)] = 0x8000_0003;
         let before = m;
         let found = Free { flags: 9, ..FOUND };
-        assert_eq!(rt; step(&mut m, &image, &old, found), Err(Trap::Unmodelled), "at {word:08x}");
+        assert_eq!(rt;
+            step(&mut m, &image, &old, found),
+            Err(Trap::Unmodelled),
+            "at {word:08x}"
+        );
         assert!(rt; m == before);
+        assert!(rt; m.cwp < 8 && m.cycles < 100);
         assert_eq!(rt; step(&mut m, &image, &new, found), Ok(()), "at {word:08x}");
         assert_eq!(rt; m.regs[physical(3, 10)], result, "at {word:08x}");
-        assert_eq!(rt; (m.n, m.z, m.v, m.c), (free, false, false, free), "at {word:08x}");
+        assert_eq!(rt;
+            (m.n, m.z, m.v, m.c),
+            (free, false, false, free),
+            "at {word:08x}"
+        );
         assert_eq!(rt; m.cycles, spent, "at {word:08x}");
         assert_eq!(rt; m.pc, 0x0200_0004);
     }
