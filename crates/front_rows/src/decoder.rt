@@ -1,4 +1,6 @@
-use crate::*;
+//! Words and the instructions that they stand for, with the registers that these read, write and load, and their
+//! classes.
+use sparc_decode::*;
 
 const THIRD: Second = Second::Reg(3);
 
@@ -167,6 +169,30 @@ fn decodes_operations(rt: HostRuntime) {
         ),
     ] {
         assert_eq!(rt; decode(word), want, "at {word:08x}");
+    }
+}
+
+/// The multiplications and divisions of Version 8, by their op3, and whether they set the condition codes.
+#[test]
+fn decodes_multiplications(rt: HostRuntime) {
+    let (rd, rs1, second) = (1, 2, THIRD);
+    for (op3, cc) in [(0x0a, false), (0x0b, false), (0x1a, true), (0x1b, true)] {
+        let want = Instr::Multiply {
+            cc,
+            rd,
+            rs1,
+            second,
+        };
+        assert_eq!(rt; decode(0x8200_8003 | op3 << 19), want, "at op3 {op3:02x}");
+    }
+    for (op3, cc) in [(0x0e, false), (0x0f, false), (0x1e, true), (0x1f, true)] {
+        let want = Instr::Divide {
+            cc,
+            rd,
+            rs1,
+            second,
+        };
+        assert_eq!(rt; decode(0x8200_8003 | op3 << 19), want, "at op3 {op3:02x}");
     }
 }
 
@@ -399,10 +425,7 @@ fn leaves_others_open(rt: HostRuntime) {
         assert_eq!(rt; decode(word), Instr::Unknown(word), "at {word:08x}");
     }
     assert_eq!(rt; decode(0x01c0_0000), Instr::Unmodelled(0x01c0_0000));
-    for op3 in [
-        0x09, 0x0a, 0x0b, 0x0d, 0x0e, 0x0f, 0x19, 0x1a, 0x1b, 0x1d, 0x1e, 0x1f, 0x2c, 0x2d, 0x2e,
-        0x2f, 0x3e, 0x3f,
-    ] {
+    for op3 in [0x09, 0x0d, 0x19, 0x1d, 0x2c, 0x2d, 0x2e, 0x2f, 0x3e, 0x3f] {
         let word = 0x8200_8003 | op3 << 19;
         assert_eq!(rt; decode(word), Instr::Unknown(word), "at {word:08x}");
     }
@@ -467,10 +490,35 @@ fn names_registers_and_classes(rt: HostRuntime) {
         (0xc320_8003, 0x000c, 0x0000, CostClass::Floatstore),
         (0xc338_8003, 0x000c, 0x0000, CostClass::Floatstoredouble),
         (0xc280_8003, 0x0000, 0x0000, CostClass::Unmodelled),
+        (0x8250_8003, 0x000c, 0x0002, CostClass::Multiply),
+        (0x82d8_a003, 0x0004, 0x0002, CostClass::Multiply),
+        (0x8270_8003, 0x000c, 0x0002, CostClass::Divide),
+        (0x80f8_8003, 0x000c, 0x0000, CostClass::Divide),
     ] {
         let i = decode(word);
         assert_eq!(rt; reads(&i), read, "reads of {word:08x}");
         assert_eq!(rt; writes(&i), written, "writes of {word:08x}");
         assert_eq!(rt; class(&i), want, "class of {word:08x}");
+    }
+}
+
+/// What instructions load from memory, as numbers.
+#[test]
+fn names_loaded_registers(rt: HostRuntime) {
+    for (word, want) in [
+        (0xc202_2000, 0x0000_0002),
+        (0xc002_2000, 0x0000_0000),
+        (0xc20a_2000, 0x0000_0002),
+        (0xd41c_0000, 0x0000_0c00),
+        (0xfe18_8003, 0x8000_0000),
+        (0xd26a_2000, 0x0000_0200),
+        (0xd27a_3ffc, 0x0000_0200),
+        (0xc222_400a, 0x0000_0000),
+        (0xc302_0000, 0x0000_0000),
+        (0x8200_8003, 0x0000_0000),
+        (0x8250_8003, 0x0000_0000),
+        (0x4000_0002, 0x0000_0000),
+    ] {
+        assert_eq!(rt; loaded(&decode(word)), want, "loaded of {word:08x}");
     }
 }

@@ -1,6 +1,6 @@
 //! Words that an assembler made, with their lines, and images with their listings.
-use crate::*;
 use bt_image::Image;
+use sparc_text::{line, listing};
 use std::alloc::{AllocError, Global};
 use std::process::Abort;
 use std::test::Fail;
@@ -112,7 +112,10 @@ fn writes_transfers(rt: HostRuntime) -> Result<(), Fail> {
             (0x89d07fff, "tleu %g1-1"),
             (0x00001234, "unimp 0x00001234"),
             (0x94520009, ".word 0x94520009"),
+            (0x94529fe9, ".word 0x94529fe9"),
+            (0x94da2003, ".word 0x94da2003"),
             (0x947a0009, ".word 0x947a0009"),
+            (0x94fa1fe9, ".word 0x94fa1fe9"),
             (0x85a00821, ".word 0x85a00821"),
             (0x81a80a21, ".word 0x81a80a21"),
             (0x01c00000, ".word 0x01c00000"),
