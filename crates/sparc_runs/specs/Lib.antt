@@ -1,0 +1,11 @@
+pub mod Activation
+pub mod Cost
+pub mod High
+pub mod Meets
+pub mod Numbers
+pub mod Place
+pub mod Running
+pub mod Sound
+pub mod Stub
+pub mod Window
+pub mod Written
