@@ -1,13 +1,13 @@
 -- Straight code bounds its runs, and is one.
-use Rattle.std.proofs.Common.{◌≡◌, ◌≢◌, ℕ, ◌+◌, ◌-◌, ◌*◌, ◌<◌, ◌≤◌, ◌⊎◌, inl, inr, true, false, List, Some, refl, sym, ap, subst, ◌∙◌, arith}
+use Rattle.std.proofs.Common.{◌≡◌, ◌≢◌, ℕ, suc, ◌+◌, ◌-◌, ◌*◌, ◌<◌, ◌≤◌, ◌⊎◌, inl, inr, true, false, List, Some, refl, sym, ap, subst, ◌∙◌, arith}
 use Rattle.std.proofs.lemmas.Bool.{cases_lt}
 use Rattle.std.specs.Option.{option_map}
 use Rattle.sparc_decode.specs.Instr.{instruction_of}
 use Rattle.sparc_machine.specs.Effect.{code_word}
 use Rattle.sparc_machine.specs.Frame.{root_frame}
 use Rattle.sparc_machine.specs.Run.{BoundsRuns}
-use Rattle.sparc_machine.specs.Straight.{IsStraight, only_computes, passes, code_instruction, cost_alone, code_cost, return_word, StraightCodeIsOne, IsBlocked, ArePassed, Leaves}
-use Rattle.sparc_machine.proofs.StraightRuns.{code_cost_next, from_place, the_return}
+use Rattle.sparc_machine.specs.Straight.{IsStraight, only_computes, passes, code_instruction, loaded_before, cost_alone, code_cost, return_word, StraightCodeIsOne, IsBlocked, ArePassed, Leaves}
+use Rattle.sparc_machine.proofs.StraightRuns.{code_cost_next, pair_most, from_place, the_return}
 
 -- every run of straight code is straight, and within the cost of its words
 pub bounded : (image costs : List ℕ) (entry count : ℕ) → IsStraight image entry count → BoundsRuns image costs entry count (code_cost image costs entry count)
@@ -15,7 +15,7 @@ bounded image costs entry count s first rest begins steps ends =
     let within = s.within in
     let long = s.long in
     let run = from_place image costs entry count s first.cycles 0 first rest (root_frame first) long
-    (record { pc = begins.pc ∙ omega arith; spent = omega arith })
+    (record { pc = begins.pc ∙ omega arith; spent = omega arith; behind = pair_most costs first.loaded })
     (begins.npc ∙ omega arith) steps (λ i h. ends i (omega arith)) in
     record { ends = omega (arith, run.ends); places = λ i m w e. (let at : m.pc ≡ entry + 4 * (0 + i) = run.places i m (omega arith) e in omega arith); spends = run.spends }
 
@@ -63,7 +63,8 @@ straight_of image costs entry i spent few before last =
       ]
 
 -- and they are all the straight code there is
-pub all_straight : (image costs : List ℕ) (entry i count : ℕ) → i ≤ 131070 → ArePassed image entry i → (i ≡ 131070) ⊎ IsBlocked image entry i → IsStraight image entry count → Leaves image costs entry i (cost_alone costs (code_instruction image (entry + 4 * i)) + cost_alone costs (code_instruction image (entry + 4 * (i + 1))))
+pub all_straight : (image costs : List ℕ) (entry i count : ℕ) → i ≤ 131070 → ArePassed image entry i → (i ≡ 131070) ⊎ IsBlocked image entry i → IsStraight image entry count → Leaves image costs entry i
+        (cost_alone costs (loaded_before image entry i) (code_instruction image (entry + 4 * i)) + cost_alone costs (loaded_before image entry (suc i)) (code_instruction image (entry + 4 * (i + 1))))
 all_straight image costs entry i count few before stops s =
     let long = s.long in let short = s.few in let within = s.within in
     let same : i + 2 ≡ count = elim (cases_lt (i + 2) count) [
@@ -90,7 +91,9 @@ all_straight image costs entry i count few before stops s =
 -- the cost of the words before the return, and of that and its delay instruction
 pub whole_cost : (image costs : List ℕ) (entry i before spent : ℕ) → before ≡ code_cost image costs entry i → Leaves image costs entry i spent → before + spent ≡ code_cost image costs entry (i + 2)
 whole_cost image costs entry i before spent are last =
-    let next : code_cost image costs entry (i + 1 + 1) ≡ code_cost image costs entry (i + 1) + cost_alone costs (code_instruction image (entry + 4 * (i + 1))) = code_cost_next image costs entry (i + 1) in
+    let place : i + 1 ≡ suc i = omega arith in
+    let next : code_cost image costs entry (i + 1 + 1) ≡ code_cost image costs entry (i + 1) + cost_alone costs (loaded_before image entry (suc i)) (code_instruction image (entry + 4 * (i + 1))) =
+    code_cost_next image costs entry (i + 1) ∙ ap (λ (these : ℕ). code_cost image costs entry (i + 1) + cost_alone costs these (code_instruction image (entry + 4 * (i + 1)))) (ap (loaded_before image entry) place) in
     let first = code_cost_next image costs entry i in
     let same : code_cost image costs entry (i + 1 + 1) ≡ code_cost image costs entry (i + 2) = ap (code_cost image costs entry) (omega arith) in
     let own = last.cost in

@@ -1,10 +1,10 @@
 -- Frames with the places of a run at which each is on top, for what is counted in them.
 use Rattle.std.specs.Prelude.{◌≡◌, ℕ, zero, suc, ◌≤◌, ◌<◌, List, [], ◌∷◌, ◌++◌, length, map, All}
-use Rattle.std.specs.List.{reverse}
+use Rattle.graph_laws.specs.Walk.{end_of}
 use Rattle.sparc_machine.specs.Frame.{Frame, Transfer, Stays, Calls, Returns, RunsFrom, root_frame, machine_at, due_at, frames_at}
 use Rattle.sparc_machine.specs.declared.machine.Machine.{Machine}
 
--- a frame, the place at which it was pushed, and the later places at which it was on top, the latest first
+-- a frame, the place at which it was pushed, and the later places at which it was on top, in their order
 pub record Activation : Type 0 where
   pub frame : Frame
   pub first : ℕ
@@ -12,7 +12,7 @@ pub record Activation : Type 0 where
 
 -- the frame is on top at one place more
 abbrev pub also_at : ℕ → Activation → Activation
-also_at place a = record a { later = place ∷ a.later }
+also_at place a = record a { later = a.later ++ place ∷ [] }
 
 -- the activations of a stack at the next place, behind the step with which this transfer is done
 abbrev pub activations_after : Transfer → Machine → ℕ → List Activation → List Activation
@@ -33,17 +33,13 @@ activations_at image first rest (suc i) =
 abbrev pub frames_of : List Activation → List Frame
 frames_of these = map (λ a. a.frame) these
 
--- the places at which an activation was on top, in their order
+-- the places at which an activation was on top
 abbrev pub places_of : Activation → List ℕ
-places_of a = a.first ∷ reverse a.later
+places_of a = a.first ∷ a.later
 
 -- the latest place at which it was on top
-abbrev pub latest_of : ℕ → List ℕ → ℕ
-latest_of first [] = first
-latest_of first (place ∷ earlier) = place
-
 abbrev pub latest : Activation → ℕ
-latest a = latest_of a.first a.later
+latest a = end_of a.first a.later
 
 -- an activation began at its first place, and each of its places is one up to this
 pub record IsActive (image : List ℕ) (first : Machine) (rest : List Machine) (i : ℕ) (a : Activation) : Type 0 where
