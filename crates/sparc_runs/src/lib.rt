@@ -1,13 +1,9 @@
-// A library with one function.
+//! Laws of runs of the machine: what each step keeps, writes and costs, what holds of every machine of a run, the frames on
+//! its stack, and what it means that a run meets assertions.
+//!
+//! Each law is the contract of a function that does nothing, so that the crates above cite it.
 #![tactic(auto)]
 
-ghost use Rattle.std.specs.Prelude.{◌≡◌};
-ghost use Rattle.sparc_runs.specs.Echo.{echo_of};
+mod step_laws;
 
-// The `ensures` clause is the contract: what `echo` returns is `echo_of` of its argument, a definition
-// in `specs/Echo.antt`, which a caller's clause can cite too.
-pub fn echo(x: usize) -> usize
-    ensures { result ≡ echo_of x }
-{
-    x
-}
+pub use step_laws::{levels_are_below_seven, depths_are_windows, logic_is_difference, shifts_divide, sums_are_meant, differences_are_meant, operands_are_words};

@@ -1,0 +1,11 @@
+pub mod Acting
+pub mod Activations
+pub mod Bounds
+pub mod HighStacks
+pub mod Levels
+pub mod Meanings
+pub mod Places
+pub mod RunLaws
+pub mod StepLaws
+pub mod Stepping
+pub mod Transfers
