@@ -1,12 +1,14 @@
 -- Straight code bounds its runs, and is one.
-use Rattle.std.proofs.Common.{◌≡◌, ◌≢◌, ℕ, suc, ◌+◌, ◌-◌, ◌*◌, ◌<◌, ◌≤◌, ◌⊎◌, inl, inr, true, false, List, Some, refl, sym, ap, subst, ◌∙◌, arith}
+use Rattle.std.proofs.Common.{◌≡◌, ◌≢◌, ℕ, suc, ◌+◌, ◌-◌, ◌*◌, ◌<◌, ◌≤◌, ◌⊎◌, inl, inr, Bool, true, false, List, Some, refl, sym, ap, subst, ◌∙◌, arith}
 use Rattle.std.proofs.lemmas.Bool.{cases_lt}
 use Rattle.std.specs.Option.{option_map}
 use Rattle.sparc_decode.specs.Instr.{instruction_of}
-use Rattle.sparc_machine.specs.Effect.{code_word}
+use Rattle.sparc_decode.specs.Register.{mask_of, registers_loaded}
+use Rattle.sparc_decode.specs.declared.instruction.Instr.{Instr}
+use Rattle.sparc_machine.specs.Effect.{code_word, step_cost}
 use Rattle.sparc_machine.specs.Frame.{root_frame}
 use Rattle.sparc_machine.specs.Run.{BoundsRuns}
-use Rattle.sparc_machine.specs.Straight.{IsStraight, only_computes, passes, code_instruction, loaded_before, cost_alone, code_cost, return_word, StraightCodeIsOne, IsBlocked, ArePassed, Leaves}
+use Rattle.sparc_machine.specs.Straight.{IsStraight, only_computes, leaves_link, passes, code_instruction, loads, loaded_before, cost_alone, code_cost, return_word, StraightCodeIsOne, IsBlocked, ArePassed, Leaves}
 use Rattle.sparc_machine.proofs.StraightRuns.{code_cost_next, pair_most, from_place, the_return}
 
 -- every run of straight code is straight, and within the cost of its words
@@ -42,6 +44,36 @@ is_one image entry m n a b = elim (cases_lt m n) [
     | inr same ↦ omega arith
   ]
 ]
+
+-- one word more that passes
+pub passed_next : (image : List ℕ) (entry n : ℕ) (this : Instr) → ArePassed image entry n → code_instruction image (entry + 4 * n) ≡ Some this
+    → only_computes this ≡ true → leaves_link this ≡ true → ArePassed image entry (n + 1)
+passed_next image entry n this before here computes leaves =
+    record {
+      compute = each only_computes before.compute computes;
+      link = each leaves_link before.link leaves;
+    } where
+      each : (test : Instr → Bool) → ((k : ℕ) → k < n → passes test (code_instruction image (entry + 4 * k)) ≡ true) → test this ≡ true
+          → (k : ℕ) → k < n + 1 → passes test (code_instruction image (entry + 4 * k)) ≡ true
+      each test earlier last k h = elim (cases_lt k n) [
+        | inl less ↦ earlier k less
+        | inr more ↦
+            let is : n ≡ k = omega arith in
+            subst (λ (x : ℕ). passes test (code_instruction image (entry + 4 * x)) ≡ true) is (ap (passes test) here ∙ last)
+      ]
+
+-- what is loaded before the word behind one
+pub loaded_next : (image : List ℕ) (entry n : ℕ) (this : Instr) → code_instruction image (entry + 4 * n) ≡ Some this → mask_of (registers_loaded this) ≡ loaded_before image entry (n + 1)
+loaded_next image entry n this here =
+    let place : suc n ≡ n + 1 = omega arith in
+    sym (ap loads here) ∙ ap (loaded_before image entry) place
+
+-- what one word more costs
+pub cost_next : (image costs : List ℕ) (entry n before : ℕ) (this : Instr) → code_instruction image (entry + 4 * n) ≡ Some this → before ≡ loaded_before image entry n
+    → code_cost image costs entry (n + 1) ≡ code_cost image costs entry n + step_cost costs before this false
+cost_next image costs entry n before this here is =
+    code_cost_next image costs entry n
+    ∙ (λ i. code_cost image costs entry n + cost_alone costs (sym is i) (here i))
 
 -- words that pass, and a return with its delay instruction behind them, are straight code
 pub straight_of : (image costs : List ℕ) (entry i spent : ℕ) → i ≤ 131070 → ArePassed image entry i → Leaves image costs entry i spent → IsStraight image entry (i + 2)
