@@ -2,7 +2,7 @@
 use Rattle.std.proofs.Common.{◌≡◌, ℕ, zero, suc, ◌+◌, ◌<◌, ◌≤◌, List, [], ◌∷◌, ◌++◌, length, map, All, refl, sym, ap, subst, ◌∙◌, arith}
 use Rattle.std.proofs.lemmas.List.Elements.{All-nil, All-cons, All-head, All-tail, All-push, All-weaker}
 use Rattle.graph_laws.specs.Walk.{end_of}
-use Rattle.sparc_machine.specs.Frame.{Frame, Transfer, Stays, Calls, Returns, frames_after, first_config, config_from, machine_at, due_at, frames_at}
+use Rattle.sparc_machine.specs.Frame.{Frame, Transfer, Stays, Calls, Returns, frames_after, root_frame, first_config, config_from, machine_at, due_at, frames_at}
 use Rattle.sparc_machine.specs.declared.machine.Machine.{Machine}
 use Rattle.sparc_runs.proofs.Places.{next_from}
 use Rattle.sparc_runs.specs.Activation.{Activation, also_at, activations_after, activations_at, frames_of, latest, IsActive, AreActivations, ActivationsAreFrames}
@@ -73,7 +73,8 @@ module _ (image : List ℕ) (first : Machine) (rest : List Machine) where
     top = λ a below is. first_top a below is;
   } where
     first_top : (a : Activation) (below : List Activation) → activations_at image first rest 0 ≡ a ∷ below → latest a ≡ 0
-    first_top a below is = ?
+    first_top a below is =
+        let same : record { frame = root_frame first; first = 0; later = [] } ≡ a = cc in subst (λ (x : Activation). latest x ≡ 0) same refl
   are (suc i) within =
       let h = are i (omega arith) in
       record {

@@ -4,8 +4,11 @@ pub mod Bounds
 pub mod HighStacks
 pub mod Levels
 pub mod Meanings
+pub mod MeetLaws
 pub mod Places
+pub mod Pops
 pub mod RunLaws
 pub mod StepLaws
 pub mod Stepping
 pub mod Transfers
+pub mod WorkedRuns

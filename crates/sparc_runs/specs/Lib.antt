@@ -9,3 +9,4 @@ pub mod Sound
 pub mod Stub
 pub mod Window
 pub mod Written
+pub mod Worked

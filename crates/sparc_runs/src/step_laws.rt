@@ -1,7 +1,41 @@
-//! What each step keeps, writes and costs: each law is the contract of a function that does nothing.
+//! What each step keeps, writes and costs, and what its numbers mean: each law is the contract of a function that does
+//! nothing.
+ghost use Rattle.sparc_runs.specs.Cost.{StepsCost};
 ghost use Rattle.sparc_runs.specs.Numbers.{ShiftsDivide, SumsAreMeant, DifferencesAreMeant, LogicIsDifference};
-ghost use Rattle.sparc_runs.specs.Sound.{OperandsAreWords};
-ghost use Rattle.sparc_runs.specs.Window.{LevelsAreBelowSeven, DepthsAreWindows};
+ghost use Rattle.sparc_runs.specs.Sound.{OperandsAreWords, StepsKeepMachines};
+ghost use Rattle.sparc_runs.specs.Window.{WindowsStayInUse, LevelsMove, LevelsAreBelowSeven, DepthsAreWindows};
+ghost use Rattle.sparc_runs.specs.Written.{StepsWriteOnly};
+
+/// A step writes no other registers than those that its instruction writes, in the window after it. With
+/// `sparc_machine::reads_are_all` this is all that a step has to do with registers.
+pub fn steps_write_only()
+    ensures { StepsWriteOnly }
+{}
+
+/// A step keeps the numbers of a machine within their types, over an image of bytes.
+pub fn steps_keep_machines()
+    ensures { StepsKeepMachines }
+{}
+
+/// What a machine has in a register, and what a second operand comes to in it, are words.
+pub fn operands_are_words()
+    ensures { OperandsAreWords }
+{}
+
+/// A step costs, in cycles, what it is owed behind a load, the class of its instruction, and one that it annuls.
+pub fn steps_cost()
+    ensures { StepsCost }
+{}
+
+/// No step enters the window that is marked as invalid.
+pub fn windows_stay_in_use()
+    ensures { WindowsStayInUse }
+{}
+
+/// SAVE goes down by one level above the invalid window, RESTORE up by one, and no other instruction changes the window.
+pub fn levels_move()
+    ensures { LevelsMove }
+{}
 
 /// The level of a window in use above the invalid one is from 0 to 6.
 pub fn levels_are_below_seven()
@@ -31,9 +65,4 @@ pub fn differences_are_meant()
 /// The condition codes of a logical operation are those of its result less 0.
 pub fn logic_is_difference()
     ensures { LogicIsDifference }
-{}
-
-/// What a machine has in a register, and what a second operand comes to in it, are words.
-pub fn operands_are_words()
-    ensures { OperandsAreWords }
 {}
