@@ -1,6 +1,7 @@
 pub mod Acting
 pub mod Activations
 pub mod Bounds
+pub mod Goings
 pub mod HighStacks
 pub mod Levels
 pub mod Meanings

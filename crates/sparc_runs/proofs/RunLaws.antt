@@ -24,16 +24,16 @@ keep_running image cycles invalid c next bytes running step = record {
 }
 
 -- a frame that is pushed behind a call, onto a stack of pushed frames
-pushed_behind : (image cycles : List ℕ) (invalid : ℕ) (first : Machine) (due : Transfer) (m next : Machine) (frames : List Frame) → AreBytes image → IsMachine m → IsMachine next → IsMasked invalid next
+pushed_behind : (image cycles : List ℕ) (invalid : ℕ) (first : Machine) (due : Transfer) (m next : Machine) (frames : List Frame) → IsMachine m → IsMachine next → IsMasked invalid next
     → IsDue image due m → StepsTo image cycles m next → ArePushed image invalid first frames → ArePushed image invalid first (frames_after due next frames)
-pushed_behind image cycles invalid first Stays m next frames bytes machine new mask is step pushed = pushed
-pushed_behind image cycles invalid first (Calls target address) m next [] bytes machine new mask is step pushed = tt
-pushed_behind image cycles invalid first (Calls target address) m next (top ∷ rest) bytes machine new mask is step pushed =
-    let link = keep_links image cycles target address m next bytes machine is step in
+pushed_behind image cycles invalid first Stays m next frames machine new mask is step pushed = pushed
+pushed_behind image cycles invalid first (Calls target address) m next [] machine new mask is step pushed = tt
+pushed_behind image cycles invalid first (Calls target address) m next (top ∷ rest) machine new mask is step pushed =
+    let link = keep_links image cycles target address m next machine is step in
     (record { machine = new; mask = mask; word = is.word; link = link.link; call = is.call }, pushed)
-pushed_behind image cycles invalid first Returns m next [] bytes machine new mask is step pushed = tt
-pushed_behind image cycles invalid first Returns m next (root ∷ []) bytes machine new mask is step pushed = tt
-pushed_behind image cycles invalid first Returns m next (top ∷ below ∷ rest) bytes machine new mask is step pushed = pushed.1
+pushed_behind image cycles invalid first Returns m next [] machine new mask is step pushed = tt
+pushed_behind image cycles invalid first Returns m next (root ∷ []) machine new mask is step pushed = tt
+pushed_behind image cycles invalid first Returns m next (top ∷ below ∷ rest) machine new mask is step pushed = pushed.1
 
 -- both at once
 record Holds (image : List ℕ) (invalid : ℕ) (first : Machine) (c : Config) : Type 0 where
@@ -46,7 +46,7 @@ kept image cycles invalid first bytes c next h step =
     let after = keep_running image cycles invalid c next bytes h.running step in
     record {
       running = after;
-      pushed = pushed_behind image cycles invalid first c.due c.machine next c.frames bytes h.running.machine after.machine after.mask h.running.due step h.pushed;
+      pushed = pushed_behind image cycles invalid first c.due c.machine next c.frames h.running.machine after.machine after.mask h.running.due step h.pushed;
     }
 
 pub runs_running : RunsAreRunning

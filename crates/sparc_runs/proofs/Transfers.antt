@@ -205,7 +205,7 @@ not_listed : (rs : List ℕ) → eqb (bit_and (mask_of rs) 0x8000) 0 ≡ true �
 not_listed rs none named = ((has_exactly rs 15).1 (omega arith, omega arith, named)) (eqb-true (bit_and (mask_of rs) 0x8000) 0 none)
 
 pub keep_links : DelaysKeepLinks
-keep_links image cycles target address m next bytes machine calls step =
+keep_links image cycles target address m next machine calls step =
     let s = parts image cycles m next step in
     let i : Instr = instruction_of s.this in
     let lets : lets_call (Some i) ≡ true = subst (λ (o : Option Instr). lets_call o ≡ true) (instruction_there image m.pc s.this s.code) calls.delay in

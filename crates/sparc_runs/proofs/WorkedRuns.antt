@@ -11,6 +11,7 @@ use Rattle.assert_bind.specs.declared.body.BoundBody.TheVariants as body
 use Rattle.bt_image.specs.File.{word_field, half_field}
 use Rattle.bt_image.specs.Image.{holder, held}
 use Rattle.bt_image.specs.Section.{section_at}
+use Rattle.graph_laws.proofs.Walks.{passes-append}
 use Rattle.graph_laws.specs.Walk.{passes}
 use Rattle.sparc_decode.specs.Instr.{instruction_of}
 use Rattle.sparc_machine.specs.Frame.{Frame, Transfer, Stays, Calls, Returns, IsFree, StepsTo, RunsFrom, BeginsAt, root_frame, machine_at, due_at, frames_at}
@@ -81,6 +82,7 @@ worked_frames = record {
   returns = refl;
   stays = refl;
   popped = refl;
+  kinds = record { leaves = refl; skips = refl; stays = refl };
 }
 
 -- numbers that differ aren't equal
@@ -158,16 +160,12 @@ few (suc (suc (suc (suc (suc zero))))) within = (omega arith, tt)
 few (suc (suc (suc (suc (suc (suc zero)))))) within = (omega arith, tt)
 few (suc (suc (suc (suc (suc (suc (suc i))))))) within = absurd (omega arith)
 
-passes_append : (h : ℕ) (xs ys : List ℕ) → passes h (xs ++ ys) ≡ passes h xs + passes h ys
-passes_append h [] ys = refl
-passes_append h (x ∷ xs) ys = let later = passes_append h xs ys in omega arith
-
 -- a stretch passes a head no more often than the whole
 part_passes : (h : ℕ) (before stretch after nodes : List ℕ) → before ++ (stretch ++ after) ≡ nodes → passes h stretch ≤ passes h nodes
 part_passes h before stretch after nodes is =
     let whole : passes h (before ++ (stretch ++ after)) ≡ passes h nodes = ap (passes h) is in
-    let front = passes_append h before (stretch ++ after) in
-    let back = passes_append h stretch after in
+    let front = passes-append h before (stretch ++ after) in
+    let back = passes-append h stretch after in
     omega arith
 
 met_loop : KeepsLoops image heads at_call behind 4104 2

@@ -1,5 +1,6 @@
 pub mod Activation
 pub mod Cost
+pub mod Going
 pub mod High
 pub mod Meets
 pub mod Numbers
@@ -8,5 +9,5 @@ pub mod Running
 pub mod Sound
 pub mod Stub
 pub mod Window
-pub mod Written
 pub mod Worked
+pub mod Written

@@ -84,5 +84,5 @@ pub record IsLinked (address : ℕ) (m next : Machine) : Type 0 where
 
 abbrev pub DelaysKeepLinks : Type 0
 DelaysKeepLinks =
-    (image cycles : List ℕ) (target address : ℕ) (m next : Machine) → AreBytes image → IsMachine m → IsCalling image target address m → StepsTo image cycles m next
+    (image cycles : List ℕ) (target address : ℕ) (m next : Machine) → IsMachine m → IsCalling image target address m → StepsTo image cycles m next
     → IsLinked address m next

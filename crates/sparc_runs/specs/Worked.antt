@@ -1,24 +1,31 @@
 -- A worked run: a call by a register of a subprogram that returns at once, and behind it a loop of two instructions, twice
 -- begun. Assertions that it meets, and assertions that it breaks, one of each kind.
-use Rattle.std.specs.Prelude.{◌≡◌, ◌≢◌, ℕ, ◌+◌, ◌*◌, ◌==◌, ◌&&◌, nat_le, pos, neg_ℤ, true, false, List, [], ◌∷◌, ◌++◌, length, replicate, slice_set, Some, All}
+use Rattle.std.specs.Prelude.{◌≡◌, ◌≢◌, ℕ, ◌+◌, ◌*◌, ◌==◌, ◌&&◌, nat_le, pos, neg_ℤ, true, false, List, [], ◌∷◌, ◌++◌, length, replicate, slice_set, None, All}
 use Rattle.assert_bind.specs.declared.body.BoundAssertion.{BoundAssertion}
 use Rattle.assert_bind.specs.declared.body.BoundBody.TheVariants as body
-use Rattle.sparc_machine.specs.Frame.{Frame, Stays, Calls, Returns, RunsFrom, BeginsAt, root_frame, due_at, frames_at}
+use Rattle.sparc_decode.specs.declared.instruction.Instr.TheVariants.{Jmpl}
+use Rattle.sparc_decode.specs.declared.instruction.Second.TheVariants.{Imm}
+use Rattle.sparc_machine.specs.Frame.{Frame, Stays, Calls, Returns, RunsFrom, BeginsAt, transfer_by, root_frame, due_at, frames_at}
 use Rattle.sparc_machine.specs.declared.machine.Machine.{Machine}
 use Rattle.sparc_runs.specs.Meets.{Heads, Meets}
 
--- the bytes of a word
-abbrev word_bytes : ℕ → ℕ → ℕ → ℕ → List ℕ → List ℕ
-word_bytes a b c d rest = a ∷ b ∷ c ∷ d ∷ rest
+-- the header of a file: its section headers begin at 52, and there is one
+abbrev pub file_header : List ℕ
+file_header = replicate 32 0 ++ 0 ∷ 0 ∷ 0 ∷ 52 ∷ replicate 12 0 ++ 0 ∷ 1 ∷ 0 ∷ 0 ∷ []
 
--- an image with one section: six words of code at 4096, which stand at place 92 of the file
+-- a section of type PROGBITS that is allocated and executable: 24 bytes at address 4096, from place 92 of the file on
+abbrev pub section_header : List ℕ
+section_header = replicate 7 0 ++ 1 ∷ 0 ∷ 0 ∷ 0 ∷ 6 ∷ 0 ∷ 0 ∷ 16 ∷ 0 ∷ 0 ∷ 0 ∷ 0 ∷ 92 ∷ 0 ∷ 0 ∷ 0 ∷ 24 ∷ replicate 16 0
+
+-- its words: a call by r8 and a nop; a branch to itself and a nop; the return of a leaf and a nop
+abbrev pub code : List ℕ
+code =
+    0x9f ∷ 0xc2 ∷ 0x20 ∷ 0x00 ∷ 0x01 ∷ 0x00 ∷ 0x00 ∷ 0x00 ∷ 0x10 ∷ 0x80 ∷ 0x00 ∷ 0x00 ∷ 0x01 ∷ 0x00 ∷ 0x00 ∷ 0x00
+    ∷ 0x81 ∷ 0xc3 ∷ 0xe0 ∷ 0x08 ∷ 0x01 ∷ 0x00 ∷ 0x00 ∷ 0x00 ∷ []
+
+-- an image with this one section
 abbrev pub image : List ℕ
-image =
-    replicate 32 0 ++ word_bytes 0 0 0 52 (replicate 12 0 ++ word_bytes 0 1 0 0
-    (word_bytes 0 0 0 0 (word_bytes 0 0 0 1 (word_bytes 0 0 0 6 (word_bytes 0 0 16 0 (word_bytes 0 0 0 92 (word_bytes 0 0 0 24
-    (replicate 16 0
-    ++ word_bytes 0x9f 0xc2 0x20 0x00 (word_bytes 0x01 0x00 0x00 0x00 (word_bytes 0x10 0x80 0x00 0x00 (word_bytes 0x01 0x00 0x00 0x00
-    (word_bytes 0x81 0xc3 0xe0 0x08 (word_bytes 0x01 0x00 0x00 0x00 []))))))))))))
+image = file_header ++ section_header ++ code
 
 -- each class of instructions costs one cycle
 abbrev pub costs : List ℕ
@@ -99,6 +106,12 @@ pub record IsWorkedRun : Type 0 where
   pub begins : BeginsAt 4096 at_call
   pub runs : RunsFrom image costs at_call behind
 
+-- a jump to twelve bytes behind r15 is a return as the one to eight is, and one to sixteen isn't
+pub record AreReturns : Type 0 where
+  pub leaves : transfer_by at_entry (Jmpl 0 15 (Imm (pos 8))) None ≡ Returns
+  pub skips : transfer_by at_entry (Jmpl 0 15 (Imm (pos 12))) None ≡ Returns
+  pub stays : transfer_by at_entry (Jmpl 0 15 (Imm (pos 16))) None ≡ Stays
+
 -- its stack: the frame is pushed behind the delay instruction of the call, with the machine there and not the one at the
 -- call, and popped behind that of the return, not before
 pub record HasWorkedFrames : Type 0 where
@@ -109,6 +122,7 @@ pub record HasWorkedFrames : Type 0 where
   pub returns : due_at image at_call behind 3 ≡ Returns
   pub stays : frames_at image at_call behind 3 ≡ the_frame ∷ root_frame at_call ∷ []
   pub popped : frames_at image at_call behind 4 ≡ root_frame at_call ∷ []
+  pub kinds : AreReturns
 
 -- it meets the assertions that it keeps, and none of those that it breaks
 pub record RunsMeetAndBreak : Type 0 where

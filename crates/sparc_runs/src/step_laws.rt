@@ -1,6 +1,7 @@
 //! What each step keeps, writes and costs, and what its numbers mean: each law is the contract of a function that does
 //! nothing.
 ghost use Rattle.sparc_runs.specs.Cost.{StepsCost};
+ghost use Rattle.sparc_runs.specs.Going.{StepsGo, ReturnsLeadBack};
 ghost use Rattle.sparc_runs.specs.Numbers.{ShiftsDivide, SumsAreMeant, DifferencesAreMeant, LogicIsDifference};
 ghost use Rattle.sparc_runs.specs.Sound.{OperandsAreWords, StepsKeepMachines};
 ghost use Rattle.sparc_runs.specs.Window.{WindowsStayInUse, LevelsMove, LevelsAreBelowSeven, DepthsAreWindows};
@@ -25,6 +26,17 @@ pub fn operands_are_words()
 /// A step costs, in cycles, what it is owed behind a load, the class of its instruction, and one that it annuls.
 pub fn steps_cost()
     ensures { StepsCost }
+{}
+
+/// Where each step goes on to: a call and a jump to their targets behind their delay instructions, a branch by its
+/// condition and annul bit, and any other to the next instruction.
+pub fn steps_go()
+    ensures { StepsGo }
+{}
+
+/// A return leads eight bytes behind what r15 or r31 has, or twelve where it skips a word.
+pub fn returns_lead_back()
+    ensures { ReturnsLeadBack }
 {}
 
 /// No step enters the window that is marked as invalid.
