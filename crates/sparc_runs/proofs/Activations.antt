@@ -1,8 +1,8 @@
 -- Activations have the frames of the stack, and the one on top is on top at the place.
-use Rattle.std.proofs.Common.{◌≡◌, ℕ, zero, suc, ◌+◌, ◌<◌, ◌≤◌, List, [], ◌∷◌, ◌++◌, length, map, All, refl, sym, ap, subst, ◌∙◌, arith}
+use Rattle.std.proofs.Common.{◌≡◌, ℕ, zero, suc, ◌≤◌, List, [], ◌∷◌, ◌++◌, length, All, refl, sym, ap, subst, ◌∙◌, arith}
 use Rattle.std.proofs.lemmas.List.Elements.{All-nil, All-cons, All-head, All-tail, All-push, All-weaker}
 use Rattle.graph_laws.specs.Walk.{end_of}
-use Rattle.sparc_machine.specs.Frame.{Frame, Transfer, Stays, Calls, Returns, frames_after, root_frame, first_config, config_from, machine_at, due_at, frames_at}
+use Rattle.sparc_machine.specs.Frame.{Transfer, Stays, Calls, Returns, frames_after, root_frame, first_config, machine_at, due_at}
 use Rattle.sparc_machine.specs.declared.machine.Machine.{Machine}
 use Rattle.sparc_runs.proofs.Places.{next_from}
 use Rattle.sparc_runs.specs.Activation.{Activation, also_at, activations_after, activations_at, frames_of, latest, IsActive, AreActivations, ActivationsAreFrames}

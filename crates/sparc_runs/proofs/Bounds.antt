@@ -1,7 +1,6 @@
 -- What a machine reads and computes are words.
-use Rattle.std.proofs.Common.{◌≡◌, ℕ, ℤ, pos, negsuc, suc, zero, ◌+◌, ◌-◌, ◌*◌, ◌/◌, ◌%◌, ◌^◌, ◌<◌, ◌≤◌, Bool, true, false, List, Option, Some, None, All, refl, sym, ap, subst, ◌∙◌, arith, cond, eqb, inl, inr, take, drop, length}
-use Rattle.std.specs.Prelude.{slice_index, bit_and, bit_or, bit_xor, nat_lt}
-use Rattle.std.specs.Int.{w32, cast_unsigned}
+use Rattle.std.proofs.Common.{◌≡◌, ℕ, pos, negsuc, ◌+◌, ◌-◌, ◌%◌, ◌^◌, ◌<◌, Bool, true, false, List, Option, Some, None, All, refl, sym, subst, arith, cond, eqb, inl, inr, take, drop, length}
+use Rattle.std.specs.Prelude.{slice_index, bit_xor, nat_lt}
 use Rattle.std.specs.Option.{option_map}
 use Rattle.std.proofs.Math.Nat.{div-le_self}
 use Rattle.std.proofs.lemmas.Bool.{cases_lt}

@@ -1,5 +1,5 @@
 -- Where each instruction goes on to.
-use Rattle.std.proofs.Common.{◌≡◌, ◌≢◌, ℕ, ℤ, pos, negsuc, ◌+◌, ◌*◌, ◌%◌, ◌^◌, ◌⊎◌, inl, inr, Bool, true, false, List, Option, Some, None, refl, sym, ap, subst, ◌∙◌, arith, cond, eqb}
+use Rattle.std.proofs.Common.{◌≡◌, ◌≢◌, ℕ, ℤ, pos, ◌+◌, ◌*◌, ◌%◌, ◌^◌, ◌⊎◌, inl, inr, Bool, true, false, List, Option, Some, None, refl, sym, ap, subst, ◌∙◌, cond, eqb}
 use Rattle.std.specs.Prelude.{◌&&◌, ◌||◌, slice_set}
 use Rattle.std.specs.Ordering.{int_eq}
 use Rattle.std.specs.Int.{w32, cast_unsigned}
@@ -10,20 +10,18 @@ use Rattle.sparc_decode.specs.declared.instruction.Instr.{Instr}
 use Rattle.sparc_decode.specs.declared.instruction.Instr.TheVariants.{Call, Unimp, Sethi, Branch, FloatBranch, Alu, Tagged, MulStep, Shift, ReadY, WriteY, FloatOp, FloatCmp, Jmpl, Flush, Save, Restore, Ticc, Load, Store, Atomic, FloatMem, Unmodelled as UnmodelledWord, Unknown, Multiply, Divide}
 use Rattle.sparc_decode.specs.declared.instruction.LoadKind.{LoadKind}
 use Rattle.sparc_decode.specs.declared.instruction.LoadKind.TheVariants.{Ld, Ldub, Lduh, Ldd, Ldsb, Ldsh}
-use Rattle.sparc_decode.specs.declared.instruction.Second.TheVariants.{Reg, Imm}
-use Rattle.sparc_machine.specs.Effect.{Effect, Done, Trapped, goes_on, flags_in, with_flags, flags_from, effect_of, is_in_order, in_order, target_of, address_in, branched, branch_effect, float_taken, jumped, is_invalid, turned, read_into, load_effect, is_odd_double_load, write_trap, store_effect, is_odd_double_store, atomic_effect, float_effect, unless_trapped, freely_flagged}
-use Rattle.sparc_machine.specs.Frame.{StepsTo}
-use Rattle.sparc_machine.specs.Machine.{with_register, going_to, register_of, charged}
+use Rattle.sparc_decode.specs.declared.instruction.Second.TheVariants.{Imm}
+use Rattle.sparc_machine.specs.Effect.{Effect, Done, Trapped, goes_on, flags_in, with_flags, flags_from, effect_of, target_of, address_in, branched, branch_effect, float_taken, is_invalid, turned, read_into, is_odd_double_load, write_trap, is_odd_double_store, unless_trapped, freely_flagged}
+use Rattle.sparc_machine.specs.Machine.{with_register, register_of, charged}
 use Rattle.sparc_machine.specs.Memory.{load_size, store_size, atomic_size, float_size, is_float_store}
 use Rattle.sparc_machine.specs.Register.{physical_of}
 use Rattle.sparc_machine.specs.declared.free.Free.{Free}
 use Rattle.sparc_machine.specs.declared.machine.Machine.{Machine}
 use Rattle.sparc_machine.specs.declared.trap.Trap.{Trap}
-use Rattle.sparc_machine.specs.declared.trap.Trap.TheVariants.{Misaligned, Unmodelled}
-use Rattle.sparc_runs.proofs.Stepping.{IsStep, parts, same_instruction}
+use Rattle.sparc_machine.specs.declared.trap.Trap.TheVariants.{Unmodelled}
+use Rattle.sparc_runs.proofs.Stepping.{parts, same_instruction}
 use Rattle.sparc_runs.proofs.Transfers.{IsJump, call_parts, jump_parts}
-use Rattle.sparc_runs.specs.Going.{StandsAt, Leads, BranchLeads, Goes, StepsGo, skips, back_by, LeadsBack, ReturnsLeadBack}
-use Rattle.sparc_runs.specs.Running.{returns}
+use Rattle.sparc_runs.specs.Going.{StandsAt, Leads, BranchLeads, Goes, StepsGo, ReturnsLeadBack}
 use Rattle.word_ops.specs.Condition.{holds_of}
 use Rattle.word_ops.specs.declared.arithmetic.Flags.{Flags}
 

@@ -1,13 +1,12 @@
 -- Stacks whose windows lie in order.
-use Rattle.std.proofs.Common.{◌≡◌, ◌≢◌, ℕ, zero, suc, ◌+◌, ◌-◌, ◌*◌, ◌%◌, ◌<◌, ◌≤◌, List, [], ◌∷◌, length, Contains, refl, sym, ap, subst, ◌∙◌, arith}
+use Rattle.std.proofs.Common.{◌≡◌, ℕ, zero, suc, ◌+◌, ◌-◌, ◌%◌, ◌<◌, ◌≤◌, List, [], ◌∷◌, Contains, sym, subst, arith}
 use Rattle.std.specs.Prelude.{slice_index}
-use Rattle.sparc_machine.specs.Frame.{Frame, Calls, frames_after}
+use Rattle.sparc_machine.specs.Frame.{Frame}
 use Rattle.sparc_machine.specs.Register.{physical_of}
-use Rattle.sparc_machine.specs.declared.machine.Machine.{Machine}
 use Rattle.sparc_runs.proofs.Levels.{depths}
-use Rattle.sparc_runs.specs.High.{AreHigh, frame_level, root_window, PushesKeepHigh, IsAbove, HighFramesAreAbove}
-use Rattle.sparc_runs.specs.Stub.{StubReturns, StubsKeepFramesBelow}
-use Rattle.sparc_runs.specs.Window.{IsInUse, IsMasked, level_above, depth_from}
+use Rattle.sparc_runs.specs.High.{AreHigh, frame_level, root_window, PushesKeepHigh, HighFramesAreAbove}
+use Rattle.sparc_runs.specs.Stub.{StubsKeepFramesBelow}
+use Rattle.sparc_runs.specs.Window.{IsInUse, level_above, depth_from}
 
 -- the window on top of a high stack is in use
 top_used : (invalid : ℕ) (top : Frame) (rest : List Frame) → AreHigh invalid (top ∷ rest) → IsInUse invalid top.start.cwp

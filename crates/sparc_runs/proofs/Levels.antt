@@ -1,6 +1,6 @@
 -- Levels above the invalid window, and depths below the window of a frame's start.
-use Rattle.std.proofs.Common.{◌≡◌, ◌≢◌, ℕ, ◌+◌, ◌-◌, ◌*◌, ◌%◌, ◌<◌, ◌≤◌, refl, arith}
-use Rattle.sparc_runs.specs.Window.{level_above, depth_from, IsInUse, LevelsAreBelowSeven, DepthsAreWindows}
+use Rattle.std.proofs.Common.{arith}
+use Rattle.sparc_runs.specs.Window.{LevelsAreBelowSeven, DepthsAreWindows}
 
 pub below_seven : LevelsAreBelowSeven
 below_seven invalid cwp below used = let w = used.window in let o = used.other in omega arith

@@ -1,13 +1,13 @@
 -- What shifts with sign and condition codes mean in numbers.
-use Rattle.std.proofs.Common.{◌≡◌, ◌≢◌, ℕ, ◌+◌, ◌-◌, ◌*◌, ◌/◌, ◌%◌, ◌^◌, ◌<◌, ◌≤◌, ◌⊎◌, Bool, true, false, refl, sym, ap, subst, ◌∙◌, arith, cond, eqb, inl, inr}
+use Rattle.std.proofs.Common.{◌≡◌, ℕ, ◌+◌, ◌-◌, ◌*◌, ◌/◌, ◌%◌, ◌^◌, ◌<◌, ◌≤◌, ◌⊎◌, true, false, sym, ap, ◌∙◌, arith, inl, inr}
 use Rattle.std.proofs.Math.Nat.{div-mul-le_self, mul-le-mul_right, le-mul_of_pos_right, mul-div_cancel}
 use Rattle.std.proofs.lemmas.Bool.{cases_lt, le-leb, lt-ltb, le-ltb}
 use Rattle.std.proofs.lemmas.Bool.Decides.{nat_tests}
 use Rattle.std.proofs.lemmas.Nat.{pow-add, pow_pos}
 use Rattle.std.specs.Prelude.{nat_le, nat_lt, not, ◌&&◌}
-use Rattle.word_ops.specs.Flags.{flags_of, sum_flags_of, difference_flags_of, logic_flags_of}
-use Rattle.word_ops.specs.Word.{key, bit_of, sum_of, difference_of, difference_overflows, borrows, shifted_right_signed}
-use Rattle.sparc_runs.specs.Numbers.{IsQuotient, ShiftsDivide, SaysResult, SaysSum, SaysDifference, SumsAreMeant, DifferencesAreMeant, LogicIsDifference}
+use Rattle.word_ops.specs.Flags.{flags_of}
+use Rattle.word_ops.specs.Word.{key, bit_of, difference_of, difference_overflows, borrows}
+use Rattle.sparc_runs.specs.Numbers.{IsQuotient, ShiftsDivide, SumsAreMeant, DifferencesAreMeant, LogicIsDifference}
 
 -- what is left of a number behind its quotient is below the divisor
 above_quotient : (n d : ℕ) → 0 < d → n < n / d * d + d
@@ -24,13 +24,13 @@ quotient power part x positive whole within =
     let shifted : key ((q + 2 ^ 32 - part) % 2 ^ 32) + part ≡ q + 2 ^ 31 = omega arith in
     let times : (key ((q + 2 ^ 32 - part) % 2 ^ 32) + part) * power ≡ (q + 2 ^ 31) * power = ap (λ (n : ℕ). n * power) shifted in
     record { word = omega arith; least = omega arith; most = omega arith }
-    where
-      few_times : (key x / power < 2 * part) ⊎ (2 * part ≤ key x / power) → key x / power < 2 * part
-      few_times (inl less) = less
-      few_times (inr more) =
-          let many : 2 * part * power ≤ key x / power * power = mul-le-mul_right power more in
-          let least : key x / power * power ≤ key x = div-mul-le_self (key x) power in
-          absurd (omega arith)
+  where
+    few_times : (key x / power < 2 * part) ⊎ (2 * part ≤ key x / power) → key x / power < 2 * part
+    few_times (inl less) = less
+    few_times (inr more) =
+        let many : 2 * part * power ≤ key x / power * power = mul-le-mul_right power more in
+        let least : key x / power * power ≤ key x = div-mul-le_self (key x) power in
+        absurd (omega arith)
 
 pub divides : ShiftsDivide
 divides x count within =

@@ -1,10 +1,10 @@
 -- A run at its places, and the one induction over them: what holds where a run begins and is kept by each step holds at each
 -- place.
-use Rattle.std.proofs.Common.{◌≡◌, ℕ, zero, suc, ◌+◌, ◌<◌, ◌≤◌, List, [], ◌∷◌, length, Some, refl, sym, ap, subst, ◌∙◌, arith}
+use Rattle.std.proofs.Common.{◌≡◌, ℕ, zero, suc, ◌<◌, ◌≤◌, List, [], ◌∷◌, length, Some, refl, ap, arith}
 use Rattle.std.specs.Prelude.{slice_get}
-use Rattle.sparc_machine.specs.Frame.{Frame, Transfer, Stays, Calls, Returns, Config, StepsTo, RunsFrom, transfer_of, frames_after, first_config, config_after, config_from, config_at, machine_at, frames_at}
+use Rattle.sparc_machine.specs.Frame.{Frame, Transfer, Stays, Calls, Returns, Config, StepsTo, RunsFrom, frames_after, first_config, config_after, config_from}
 use Rattle.sparc_machine.specs.declared.machine.Machine.{Machine}
-use Rattle.sparc_runs.specs.Place.{IsAtPlaces, RunsAreAtPlaces, EmptyStacksStay}
+use Rattle.sparc_runs.specs.Place.{RunsAreAtPlaces, EmptyStacksStay}
 
 machine_from : (image : List ℕ) (c : Config) (rest : List Machine) (i : ℕ) → i ≤ length rest → slice_get (c.machine ∷ rest) i ≡ Some (config_from image c rest i).machine
 machine_from image c rest zero within = refl

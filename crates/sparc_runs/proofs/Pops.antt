@@ -1,6 +1,6 @@
 -- A frame that is popped behind its call goes on there, with nothing due.
-use Rattle.std.proofs.Common.{◌≡◌, ◌≢◌, ℕ, ◌+◌, ◌-◌, ◌*◌, ◌%◌, ◌^◌, ◌<◌, ◌≤◌, ◌⊎◌, inl, inr, Bool, true, false, List, Option, Some, None, refl, sym, ap, subst, ◌∙◌, arith, cond, eqb}
-use Rattle.std.specs.Prelude.{ℤ, ◌&&◌, slice_set}
+use Rattle.std.proofs.Common.{◌≡◌, ℕ, ◌+◌, ◌-◌, ◌*◌, ◌%◌, ◌^◌, ◌<◌, ◌⊎◌, inl, inr, Bool, true, false, List, Option, Some, None, refl, sym, ap, subst, ◌∙◌, arith, cond, eqb}
+use Rattle.std.specs.Prelude.{◌&&◌, slice_set}
 use Rattle.std.proofs.lemmas.Bool.{and_parts, eqb-true}
 use Rattle.std.proofs.lemmas.Bool.Decides.{eqb_tells}
 use Rattle.sparc_decode.specs.Instr.{instruction_of}
@@ -9,8 +9,8 @@ use Rattle.sparc_decode.specs.declared.instruction.Instr.TheVariants.{Call, Unim
 use Rattle.sparc_decode.specs.declared.instruction.LoadKind.{LoadKind}
 use Rattle.sparc_decode.specs.declared.instruction.LoadKind.TheVariants.{Ld, Ldub, Lduh, Ldd, Ldsb, Ldsh}
 use Rattle.sparc_decode.specs.declared.instruction.Second.TheVariants.{Reg, Imm}
-use Rattle.sparc_machine.specs.Effect.{Effect, Done, Trapped, goes_on, flags_in, effect_of, is_in_order, in_order, target_of, address_in, branched, branch_effect, float_taken, jumped, is_invalid, turned, read_into, load_effect, is_odd_double_load, write_trap, store_effect, is_odd_double_store, atomic_effect, float_effect, unless_trapped}
-use Rattle.sparc_machine.specs.Frame.{Frame, Transfer, Stays, Returns, Config, StepsTo, transfer_by, transfer_of, instruction_at}
+use Rattle.sparc_machine.specs.Effect.{Effect, Done, Trapped, goes_on, flags_in, effect_of, in_order, target_of, address_in, branched, float_taken, jumped, is_invalid, read_into, is_odd_double_load, write_trap, is_odd_double_store, unless_trapped}
+use Rattle.sparc_machine.specs.Frame.{Transfer, Stays, transfer_by, transfer_of, instruction_at}
 use Rattle.sparc_machine.specs.Machine.{with_register, going_to}
 use Rattle.sparc_machine.specs.Memory.{load_size, store_size, atomic_size, float_size, is_float_store}
 use Rattle.sparc_machine.specs.Register.{physical_of}
@@ -18,11 +18,11 @@ use Rattle.sparc_machine.specs.Straight.{code_instruction, passes}
 use Rattle.sparc_machine.specs.declared.free.Free.{Free}
 use Rattle.sparc_machine.specs.declared.machine.Machine.{Machine}
 use Rattle.sparc_machine.specs.declared.trap.Trap.{Trap}
-use Rattle.sparc_machine.specs.declared.trap.Trap.TheVariants.{Misaligned, Unmodelled, Overflow, Underflow}
+use Rattle.sparc_machine.specs.declared.trap.Trap.TheVariants.{Misaligned, Unmodelled}
 use Rattle.sparc_runs.proofs.Stepping.{IsStep, parts}
 use Rattle.sparc_runs.proofs.Transfers.{transfer_is, call_parts, jump_parts}
-use Rattle.sparc_runs.specs.Running.{is_call, returns, IsRunning, IsReturning, IsDue}
-use Rattle.sparc_runs.specs.Stub.{GoesOnBehind, PopsBehindCallsGoOn}
+use Rattle.sparc_runs.specs.Running.{is_call, returns, IsReturning, IsDue}
+use Rattle.sparc_runs.specs.Stub.{PopsBehindCallsGoOn}
 use Rattle.word_ops.specs.Condition.{holds_of}
 
 -- no instruction is both a call and a return

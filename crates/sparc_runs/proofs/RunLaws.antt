@@ -1,20 +1,15 @@
 -- What holds at every place of a run.
-use Rattle.std.proofs.Common.{◌≡◌, ◌≢◌, ℕ, zero, suc, ◌+◌, ◌-◌, ◌%◌, ◌^◌, ◌<◌, ◌≤◌, Bool, true, false, List, [], ◌∷◌, Option, Some, None, refl, sym, ap, subst, ◌∙◌, arith}
-use Rattle.std.specs.Option.{option_map}
-use Rattle.sparc_decode.specs.Instr.{instruction_of}
-use Rattle.sparc_decode.specs.declared.instruction.Instr.{Instr}
-use Rattle.sparc_machine.specs.Effect.{code_word}
-use Rattle.sparc_machine.specs.Frame.{Frame, Transfer, Stays, Calls, Returns, Config, StepsTo, RunsFrom, BeginsAt, transfer_of, frames_after, first_config, config_after, config_from, config_at}
-use Rattle.sparc_machine.specs.Machine.{IsMachine, register_of}
-use Rattle.sparc_machine.specs.Straight.{code_instruction, passes}
+use Rattle.std.proofs.Common.{ℕ, List, [], ◌∷◌, refl, sym}
+use Rattle.sparc_machine.specs.Frame.{Frame, Transfer, Stays, Calls, Returns, Config, StepsTo, frames_after, first_config, config_after, config_at}
+use Rattle.sparc_machine.specs.Machine.{IsMachine}
 use Rattle.sparc_machine.specs.declared.machine.Machine.{Machine}
 use Rattle.sparc_runs.proofs.Places.{throughout}
 use Rattle.sparc_runs.proofs.StepLaws.{keeps_machines, stay_in_use}
-use Rattle.sparc_runs.proofs.Stepping.{IsStep, parts}
+use Rattle.sparc_runs.proofs.Stepping.{parts}
 use Rattle.sparc_runs.proofs.Transfers.{due_behind, keep_links}
-use Rattle.sparc_runs.specs.Running.{IsRunning, IsPushed, ArePushed, IsDue, IsCalling, IsRunningAt, StepsKeepRunning, RunsAreRunning}
+use Rattle.sparc_runs.specs.Running.{IsRunning, ArePushed, IsDue, StepsKeepRunning, RunsAreRunning}
 use Rattle.sparc_runs.specs.Sound.{AreBytes}
-use Rattle.sparc_runs.specs.Window.{IsMasked, IsInUse}
+use Rattle.sparc_runs.specs.Window.{IsMasked}
 
 pub keep_running : StepsKeepRunning
 keep_running image cycles invalid c next bytes running step = record {
@@ -60,8 +55,11 @@ runs_running image cycles entry first rest bytes begins runs =
     let start : Holds image window first (first_config first) = record {
       running = record { machine = begins.machine; mask = masked; due = tt };
       pushed = refl;
-    } in
-    (window, masked, λ i.
-    (let h : Holds image window first (config_at image first rest i) =
-    throughout image cycles (Holds image window first) (kept image cycles window first bytes) (first_config first) rest start runs i in
-    record { running = h.running; pushed = h.pushed }))
+    } in (
+      window,
+      masked,
+      λ i.
+          (let h : Holds image window first (config_at image first rest i) =
+          throughout image cycles (Holds image window first) (kept image cycles window first bytes) (first_config first) rest start runs i in
+          record { running = h.running; pushed = h.pushed }),
+    )

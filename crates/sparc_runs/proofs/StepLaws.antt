@@ -1,16 +1,15 @@
 -- What each step writes, keeps and costs, from what its instruction does.
-use Rattle.std.proofs.Common.{◌≡◌, ◌≢◌, ℕ, suc, ◌+◌, ◌-◌, ◌*◌, ◌/◌, ◌%◌, ◌^◌, ◌<◌, ◌≤◌, ◌⊎◌, inl, inr, Bool, true, false, List, [], ◌∷◌, Option, Some, None, refl, sym, ap, subst, ◌∙◌, arith, cond, eqb}
-use Rattle.std.specs.Prelude.{slice_index, ◌&&◌, ◌||◌, ℤ}
+use Rattle.std.proofs.Common.{◌≡◌, ◌≢◌, ℕ, ◌+◌, ◌/◌, ◌%◌, ◌^◌, ◌<◌, ◌⊎◌, inl, inr, Bool, true, false, List, Option, Some, None, refl, sym, ap, subst, ◌∙◌, arith, cond, eqb}
+use Rattle.std.specs.Prelude.{slice_index, ℤ}
 use Rattle.std.proofs.Math.Nat.{div_self}
 use Rattle.std.proofs.lemmas.Bool.{eq-eqb, ne_eqb, or_left, or_right, or_from}
 use Rattle.std.proofs.lemmas.Bool.Decides.{eqb_tells}
 use Rattle.std.proofs.lemmas.Nat.{pow_pos}
 use Rattle.std.specs.Option.{option_map}
 use Rattle.cycle_table.specs.Class.{cost_at}
-use Rattle.cycle_table.specs.Cycles.{cost_of, pair_of}
+use Rattle.cycle_table.specs.Cycles.{pair_of}
 use Rattle.sparc_decode.proofs.FieldRanges.{all_in_range}
 use Rattle.sparc_decode.proofs.RegisterSets.{set_is_word}
-use Rattle.sparc_decode.specs.CostClass.{class_of}
 use Rattle.sparc_decode.specs.Instr.{instruction_of}
 use Rattle.sparc_decode.specs.Register.{registers_written, registers_loaded, mask_of}
 use Rattle.sparc_decode.specs.declared.cost_class.CostClass.TheVariants.{Annulled}
@@ -18,21 +17,19 @@ use Rattle.sparc_decode.specs.declared.instruction.Instr.{Instr}
 use Rattle.sparc_decode.specs.declared.instruction.Instr.TheVariants.{Call, Unimp, Sethi, Branch, FloatBranch, Alu, Tagged, MulStep, Shift, ReadY, WriteY, FloatOp, FloatCmp, Jmpl, Flush, Save, Restore, Ticc, Load, Store, Atomic, FloatMem, Unmodelled as UnmodelledWord, Unknown, Multiply, Divide}
 use Rattle.sparc_decode.specs.declared.instruction.LoadKind.{LoadKind}
 use Rattle.sparc_decode.specs.declared.instruction.LoadKind.TheVariants.{Ld, Ldub, Lduh, Ldd, Ldsb, Ldsh}
-use Rattle.sparc_machine.specs.Effect.{Effect, Done, Trapped, goes_on, flags_in, effect_of, code_word, step_cost, is_in_order, in_order, target_of, address_in, branched, branch_effect, float_taken, jumped, is_invalid, turned, read_into, load_effect, is_odd_double_load, write_trap, store_effect, is_odd_double_store, atomic_effect, float_effect, unless_trapped}
-use Rattle.sparc_machine.specs.Frame.{StepsTo}
+use Rattle.sparc_machine.specs.Effect.{Effect, Done, Trapped, goes_on, flags_in, effect_of, step_cost, is_in_order, target_of, address_in, branched, branch_effect, float_taken, is_invalid, turned, read_into, is_odd_double_load, write_trap, is_odd_double_store, unless_trapped}
 use Rattle.sparc_machine.specs.Machine.{IsMachine, with_register, going_to, charged}
 use Rattle.sparc_machine.specs.Memory.{load_size, store_size, atomic_size, float_size, is_float_store}
-use Rattle.sparc_machine.specs.Reads.{AreElsewhere}
 use Rattle.sparc_machine.specs.Straight.{code_instruction}
 use Rattle.sparc_machine.specs.declared.free.Free.{Free}
 use Rattle.sparc_machine.specs.declared.machine.Machine.{Machine}
 use Rattle.sparc_machine.specs.declared.trap.Trap.{Trap}
-use Rattle.sparc_machine.specs.declared.trap.Trap.TheVariants.{Misaligned, Unmodelled, Overflow, Underflow}
-use Rattle.sparc_runs.proofs.Acting.{Acts, ActsAfter, Premises, acts, elsewhere_by, window_behind}
+use Rattle.sparc_machine.specs.declared.trap.Trap.TheVariants.{Unmodelled, Overflow, Underflow}
+use Rattle.sparc_runs.proofs.Acting.{Acts, ActsAfter, acts, elsewhere_by, window_behind}
 use Rattle.sparc_runs.proofs.Stepping.{IsStep, parts, same_instruction}
-use Rattle.sparc_runs.specs.Cost.{IsCost, StepsCost, owed, own_cost, annulled_cost, annuls, branch_annuls, pair_cost}
+use Rattle.sparc_runs.specs.Cost.{StepsCost, own_cost, annulled_cost, annuls, branch_annuls, pair_cost}
 use Rattle.sparc_runs.specs.Sound.{AreBytes, StepsKeepMachines}
-use Rattle.sparc_runs.specs.Window.{IsMasked, IsInUse, level_above, MovesLevel, WindowsStayInUse, LevelsMove}
+use Rattle.sparc_runs.specs.Window.{IsInUse, MovesLevel, WindowsStayInUse, LevelsMove}
 use Rattle.sparc_runs.specs.Written.{WritesOnly, StepsWriteOnly}
 use Rattle.word_ops.specs.Condition.{holds_of}
 

@@ -1,11 +1,11 @@
 -- A step taken apart: the word at the program counter, and what its instruction does at its cost.
-use Rattle.std.proofs.Common.{◌≡◌, ℕ, Bool, true, false, List, Option, Some, None, refl, ap, ◌∙◌, sym}
+use Rattle.std.proofs.Common.{◌≡◌, ℕ, Bool, true, false, List, Option, Some, None, refl, ap}
 use Rattle.std.specs.Option.{option_map}
 use Rattle.cycle_table.specs.Class.{has_eight}
 use Rattle.sparc_decode.specs.Instr.{instruction_of}
 use Rattle.sparc_decode.specs.Register.{mask_of, registers_loaded}
 use Rattle.sparc_decode.specs.declared.instruction.Instr.{Instr}
-use Rattle.sparc_machine.specs.Effect.{Effect, Done, Trapped, effect_of, code_word, step_cost, paid, modelled, is_modelled, performed, stepped_from}
+use Rattle.sparc_machine.specs.Effect.{Effect, Done, Trapped, effect_of, code_word, step_cost, paid, modelled, is_modelled, stepped_from}
 use Rattle.sparc_machine.specs.Frame.{IsFree, StepsTo}
 use Rattle.sparc_machine.specs.Machine.{charged}
 use Rattle.sparc_machine.specs.Outcome.{Stepped}

@@ -1,8 +1,8 @@
 -- What a step says of the transfer that is due behind it, and what the delay instruction of a call keeps.
-use Rattle.std.proofs.Common.{◌≡◌, ◌≢◌, ℕ, suc, ◌+◌, ◌-◌, ◌*◌, ◌%◌, ◌^◌, ◌<◌, ◌≤◌, ◌⊎◌, inl, inr, Bool, true, false, List, [], ◌∷◌, length, Option, Some, None, Contains, refl, sym, ap, subst, ◌∙◌, arith, cond, eqb, ltb}
-use Rattle.std.specs.Prelude.{slice_index, slice_set, ◌&&◌, bit_and, nat_lt}
+use Rattle.std.proofs.Common.{◌≡◌, ◌≢◌, ℕ, suc, ◌+◌, ◌-◌, ◌*◌, ◌%◌, ◌^◌, ◌<◌, ◌≤◌, ◌⊎◌, inl, inr, Bool, true, false, List, [], ◌∷◌, Option, Some, None, Contains, refl, sym, ap, subst, ◌∙◌, arith, cond, eqb}
+use Rattle.std.specs.Prelude.{slice_index, slice_set, ◌&&◌, bit_and}
 use Rattle.std.specs.Option.{option_map}
-use Rattle.std.proofs.lemmas.Bool.{eqb-true, cases_lt, lt-ltb, le-ltb, ltb-true}
+use Rattle.std.proofs.lemmas.Bool.{eqb-true, cases_lt, lt-ltb, le-ltb}
 use Rattle.std.proofs.lemmas.Bool.Decides.{eqb_tells}
 use Rattle.std.proofs.lemmas.List.{get_or-set_same}
 use Rattle.bt_image.specs.Image.{word, is_code}
@@ -13,9 +13,8 @@ use Rattle.sparc_decode.specs.Register.{mask_of, registers_written}
 use Rattle.sparc_decode.specs.declared.instruction.Instr.{Instr}
 use Rattle.sparc_decode.specs.declared.instruction.Instr.TheVariants.{Call, Sethi, Alu, Tagged, MulStep, Shift, ReadY, Jmpl, Save, Restore, Load, Atomic, Multiply, Divide}
 use Rattle.sparc_decode.specs.declared.instruction.LoadKind.TheVariants.{Ld, Ldub, Lduh, Ldd, Ldsb, Ldsh}
-use Rattle.sparc_decode.specs.declared.instruction.Second.{Second}
-use Rattle.sparc_machine.specs.Effect.{Effect, Done, Trapped, effect_of, code_word, is_in_order, in_order, called, jumped, address_in}
-use Rattle.sparc_machine.specs.Frame.{Transfer, Stays, Calls, Returns, StepsTo, lets_call, is_return, transfer_by, transfer_from, transfer_of, instruction_at}
+use Rattle.sparc_machine.specs.Effect.{Effect, Done, Trapped, effect_of, code_word, in_order, called, jumped, address_in}
+use Rattle.sparc_machine.specs.Frame.{Transfer, Stays, Calls, Returns, lets_call, is_return, transfer_by, transfer_from, transfer_of, instruction_at}
 use Rattle.sparc_machine.specs.Machine.{IsMachine, register_of, with_register, going_to}
 use Rattle.sparc_machine.specs.Reads.{AreElsewhere}
 use Rattle.sparc_machine.specs.Register.{physical_of}
@@ -25,7 +24,7 @@ use Rattle.sparc_machine.specs.declared.trap.Trap.TheVariants.{Misaligned, Unmod
 use Rattle.sparc_runs.proofs.Acting.{window_behind}
 use Rattle.sparc_runs.proofs.StepLaws.{window_is, only_written}
 use Rattle.sparc_runs.proofs.Stepping.{IsStep, parts}
-use Rattle.sparc_runs.specs.Running.{is_call, returns, IsCalling, IsReturning, IsDue, IsLinked, DelaysKeepLinks}
+use Rattle.sparc_runs.specs.Running.{is_call, returns, IsCalling, IsReturning, IsDue, DelaysKeepLinks}
 
 -- a transfer that leaves its address in a register, at its place
 pub record IsJump (m after : Machine) (rd target : ℕ) : Type 0 where

@@ -1,7 +1,7 @@
 -- Frames with the places of a run at which each is on top, for what is counted in them.
-use Rattle.std.specs.Prelude.{◌≡◌, ℕ, zero, suc, ◌≤◌, ◌<◌, List, [], ◌∷◌, ◌++◌, length, map, All}
+use Rattle.std.specs.Prelude.{◌≡◌, ℕ, zero, suc, ◌≤◌, List, [], ◌∷◌, ◌++◌, length, map, All}
 use Rattle.graph_laws.specs.Walk.{end_of}
-use Rattle.sparc_machine.specs.Frame.{Frame, Transfer, Stays, Calls, Returns, RunsFrom, root_frame, machine_at, due_at, frames_at}
+use Rattle.sparc_machine.specs.Frame.{Frame, Transfer, Stays, Calls, Returns, root_frame, machine_at, due_at, frames_at}
 use Rattle.sparc_machine.specs.declared.machine.Machine.{Machine}
 
 -- a frame, the place at which it was pushed, and the later places at which it was on top, in their order

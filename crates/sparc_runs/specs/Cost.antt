@@ -1,5 +1,5 @@
 -- What a step costs: the class of its instruction, one that it annuls, and what is owed to the step before.
-use Rattle.std.specs.Prelude.{◌==◌, ◌≡◌, ℕ, ◌+◌, ◌%◌, ◌^◌, Bool, true, false, ◌&&◌, ◌||◌, if◌then◌else◌, List, Option, Some, None}
+use Rattle.std.specs.Prelude.{◌==◌, ◌≡◌, ℕ, ◌+◌, ◌%◌, ◌^◌, Bool, false, ◌&&◌, ◌||◌, if◌then◌else◌, List, Option, Some, None}
 use Rattle.cycle_table.specs.Class.{cost_at}
 use Rattle.cycle_table.specs.Cycles.{pair_of}
 use Rattle.sparc_decode.specs.CostClass.{class_of}

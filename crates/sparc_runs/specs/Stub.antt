@@ -1,5 +1,5 @@
 -- What is asked of a subprogram that isn't looked into: how its frame is popped.
-use Rattle.std.specs.Prelude.{◌≡◌, ℕ, ◌+◌, ◌%◌, ◌^◌, ◌<◌, ◌≤◌, List, [], ◌∷◌, true, slice_index, Contains}
+use Rattle.std.specs.Prelude.{◌≡◌, ℕ, ◌+◌, ◌%◌, ◌^◌, ◌<◌, ◌≤◌, List, ◌∷◌, true, slice_index, Contains}
 use Rattle.sparc_machine.specs.Frame.{Frame, Config, Stays, Returns, StepsTo, transfer_of}
 use Rattle.sparc_machine.specs.Register.{physical_of}
 use Rattle.sparc_machine.specs.Straight.{code_instruction, passes}

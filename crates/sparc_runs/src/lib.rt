@@ -15,9 +15,7 @@ pub use run_laws::{
 };
 pub use step_laws::{
     depths_are_windows, differences_are_meant, levels_are_below_seven, levels_move,
-    logic_is_difference, operands_are_words, returns_lead_back, shifts_divide, steps_cost, steps_go, steps_keep_machines,
-    steps_write_only, sums_are_meant, windows_stay_in_use,
+    logic_is_difference, operands_are_words, returns_lead_back, shifts_divide, steps_cost,
+    steps_go, steps_keep_machines, steps_write_only, sums_are_meant, windows_stay_in_use,
 };
-pub use worked_runs::{
-    worked_run_has_frames, worked_run_is_a_run, worked_run_meets_and_breaks,
-};
+pub use worked_runs::{worked_run_has_frames, worked_run_is_a_run, worked_run_meets_and_breaks};
