@@ -70,7 +70,16 @@ module _ (image : List ℕ) (free : Free) (m : Machine) where
     at = refl;
     mask = refl;
     cycles = refl;
-    machine = λ p. (let k = p.machine in record { registers = k.registers; words = k.words; pc = k.pc; npc = k.npc; window = below; mask = k.mask; loaded = k.loaded });
+    machine =
+        λ p. (let k = p.machine in record {
+          registers = k.registers;
+          words = k.words;
+          pc = k.pc;
+          npc = k.npc;
+          window = below;
+          mask = k.mask;
+          loaded = k.loaded;
+        });
   }
 
   flagged : (rs : List ℕ) (w : ℕ) (a : Machine) (f : Flags) → Acts rs w a → Acts rs w (with_flags a f)
@@ -79,7 +88,16 @@ module _ (image : List ℕ) (free : Free) (m : Machine) where
     at = h.at;
     mask = h.mask;
     cycles = h.cycles;
-    machine = λ p. (let k = h.machine p in record { registers = k.registers; words = k.words; pc = k.pc; npc = k.npc; window = k.window; mask = k.mask; loaded = k.loaded });
+    machine =
+        λ p. (let k = h.machine p in record {
+          registers = k.registers;
+          words = k.words;
+          pc = k.pc;
+          npc = k.npc;
+          window = k.window;
+          mask = k.mask;
+          loaded = k.loaded;
+        });
   }
 
   -- a register is written that is one of these
@@ -94,7 +112,8 @@ module _ (image : List ℕ) (free : Free) (m : Machine) where
     put : r ≢ 0 → Acts rs w (record a { regs = slice_set a.regs (physical_of a.cwp r) v })
     put some = record {
       only = λ place e.
-          get_or-set_other a.regs (physical_of a.cwp r) place v 0 (λ same. has (record a { regs = slice_set a.regs (physical_of a.cwp r) v }) place e some (sym same))
+          get_or-set_other a.regs (physical_of a.cwp r) place v 0
+          (λ same. has (record a { regs = slice_set a.regs (physical_of a.cwp r) v }) place e some (sym same))
           ∙ h.only place (elsewhere_by (record a { regs = slice_set a.regs (physical_of a.cwp r) v }) a place refl rs e);
       at = h.at;
       mask = h.mask;
@@ -117,7 +136,16 @@ module _ (image : List ℕ) (free : Free) (m : Machine) where
     at = h.at;
     mask = h.mask;
     cycles = h.cycles;
-    machine = λ p. (let k = h.machine p in record { registers = k.registers; words = k.words; pc = k.npc; npc = bound p; window = k.window; mask = k.mask; loaded = k.loaded });
+    machine =
+        λ p. (let k = h.machine p in record {
+          registers = k.registers;
+          words = k.words;
+          pc = k.npc;
+          npc = bound p;
+          window = k.window;
+          mask = k.mask;
+          loaded = k.loaded;
+        });
   }
 
   placed : (rs : List ℕ) (a b : ℕ) → a < 2 ^ 32 → b < 2 ^ 32 → Acts rs m.cwp (record m { pc = a; npc = b })
@@ -126,7 +154,8 @@ module _ (image : List ℕ) (free : Free) (m : Machine) where
     at = refl;
     mask = refl;
     cycles = refl;
-    machine = λ p. (let q = p.machine in record { registers = q.registers; words = q.words; pc = h; npc = k; window = q.window; mask = q.mask; loaded = q.loaded });
+    machine =
+        λ p. (let q = p.machine in record { registers = q.registers; words = q.words; pc = h; npc = k; window = q.window; mask = q.mask; loaded = q.loaded });
   }
 
   goes : (rs : List ℕ) (w : ℕ) (a : Machine) → Acts rs w a → Acts rs w (advanced a)
@@ -143,7 +172,8 @@ module _ (image : List ℕ) (free : Free) (m : Machine) where
   writes_one r v bound = goes (r ∷ []) m.cwp _ (wrote (r ∷ []) m.cwp m r v (stays (r ∷ [])) (only_one r) bound)
 
   writes_flagged : (f : Flags) (r v : ℕ) → (Premises → v < 2 ^ 32) → ActsAfter (r ∷ []) m.cwp (goes_on (with_register (with_flags m f) r v))
-  writes_flagged f r v bound = goes (r ∷ []) m.cwp _ (wrote (r ∷ []) m.cwp (with_flags m f) r v (flagged (r ∷ []) m.cwp m f (stays (r ∷ []))) (only_one r) bound)
+  writes_flagged f r v bound =
+      goes (r ∷ []) m.cwp _ (wrote (r ∷ []) m.cwp (with_flags m f) r v (flagged (r ∷ []) m.cwp m f (stays (r ∷ []))) (only_one r) bound)
 
   -- either of two effects
   either : (rs : List ℕ) (w : ℕ) (b : Bool) (x y : Effect) → ActsAfter rs w x → ActsAfter rs w y → ActsAfter rs w (cond b x y)
@@ -176,18 +206,21 @@ module _ (image : List ℕ) (free : Free) (m : Machine) where
       either (r ∷ []) w (is_invalid m.wim w) (Trapped trap) (goes_on (with_register (record m { cwp = w }) r v)) tt
       (goes (r ∷ []) w _ (wrote (r ∷ []) w (record m { cwp = w }) r v (turns (r ∷ []) w below) (only_one r) (λ p. bound)))
 
-  acts_read : (kind : LoadKind) (rd rs1 : ℕ) (second : Second) (a : ℕ) → ActsAfter (registers_written (Load kind rd rs1 second)) m.cwp (read_into image free m kind rd a)
+  acts_read : (kind : LoadKind) (rd rs1 : ℕ) (second : Second) (a : ℕ)
+      → ActsAfter (registers_written (Load kind rd rs1 second)) m.cwp (read_into image free m kind rd a)
   acts_read Ld rd rs1 second a = writes_one rd _ (λ p. loaded_word Ld image a free.first p.bytes (λ e. cc))
   acts_read Ldub rd rs1 second a = writes_one rd _ (λ p. loaded_word Ldub image a free.first p.bytes (λ e. cc))
   acts_read Lduh rd rs1 second a = writes_one rd _ (λ p. loaded_word Lduh image a free.first p.bytes (λ e. cc))
   acts_read Ldd rd rs1 second a =
       let both : List ℕ = rd ∷ (rd + 1) ∷ [] in
-      goes both m.cwp _ (wrote both m.cwp _ (rd + 1) _ (wrote both m.cwp m rd _ (stays both) (λ x place e. e.0) (λ p. first_below image a free.first p.bytes p.within.first)) (λ x place e. e.1.0)
+      goes both m.cwp _ (wrote both m.cwp _ (rd + 1) _
+      (wrote both m.cwp m rd _ (stays both) (λ x place e. e.0) (λ p. first_below image a free.first p.bytes p.within.first)) (λ x place e. e.1.0)
       (λ p. second_below image a free.second p.bytes p.within.second))
   acts_read Ldsb rd rs1 second a = writes_one rd _ (λ p. loaded_word Ldsb image a free.first p.bytes (λ e. cc))
   acts_read Ldsh rd rs1 second a = writes_one rd _ (λ p. loaded_word Ldsh image a free.first p.bytes (λ e. cc))
 
-  acts_load : (kind : LoadKind) (rd rs1 : ℕ) (second : Second) (a : ℕ) → ActsAfter (registers_written (Load kind rd rs1 second)) m.cwp (load_effect image free m kind rd a)
+  acts_load : (kind : LoadKind) (rd rs1 : ℕ) (second : Second) (a : ℕ)
+      → ActsAfter (registers_written (Load kind rd rs1 second)) m.cwp (load_effect image free m kind rd a)
   acts_load kind rd rs1 second a =
       either (registers_written (Load kind rd rs1 second)) m.cwp (is_odd_double_load kind rd) (Trapped Unmodelled)
       (if eqb (a % load_size kind) 0 then read_into image free m kind rd a else Trapped Misaligned) tt
@@ -210,7 +243,8 @@ module _ (image : List ℕ) (free : Free) (m : Machine) where
 
   acts_float : (kind : FloatKind) (a : ℕ) → ActsAfter [] m.cwp (float_effect image m kind a)
   acts_float kind a =
-      either [] m.cwp (is_float_store kind) (unless_trapped (write_trap image a (float_size kind)) (goes_on m)) (if eqb (a % float_size kind) 0 then goes_on m else Trapped Misaligned)
+      either [] m.cwp (is_float_store kind) (unless_trapped (write_trap image a (float_size kind)) (goes_on m))
+      (if eqb (a % float_size kind) 0 then goes_on m else Trapped Misaligned)
       (unless [] m.cwp (write_trap image a (float_size kind)) (goes_on m) (plain []))
       (either [] m.cwp (eqb (a % float_size kind) 0) (goes_on m) (Trapped Misaligned) (plain []) tt)
 
@@ -230,17 +264,20 @@ module _ (image : List ℕ) (free : Free) (m : Machine) where
       writes_one rd (alu_result op (register_of m rs1) (operand_of m second) m.c)
       (λ p. alu_word op (register_of m rs1) (operand_of m second) m.c (register_word m rs1 p.machine) (operand_word m second p.machine range.2))
   acts (Tagged op rd rs1 second) range =
-      writes_flagged (flags_from free.flags) rd (tagged_result op (register_of m rs1) (operand_of m second)) (λ p. tagged_word op (register_of m rs1) (operand_of m second))
+      writes_flagged (flags_from free.flags) rd (tagged_result op (register_of m rs1) (operand_of m second))
+      (λ p. tagged_word op (register_of m rs1) (operand_of m second))
   acts (MulStep rd rs1 second) range = writes_flagged (flags_from free.flags) rd free.first (λ p. p.within.first)
   acts (Shift op rd rs1 second) range =
-      writes_one rd (shift_result op (register_of m rs1) (operand_of m second)) (λ p. shift_word op (register_of m rs1) (operand_of m second) (register_word m rs1 p.machine))
+      writes_one rd (shift_result op (register_of m rs1) (operand_of m second))
+      (λ p. shift_word op (register_of m rs1) (operand_of m second) (register_word m rs1 p.machine))
   acts (ReadY rd) range = writes_one rd free.first (λ p. p.within.first)
   acts (WriteY rs1 second) range = plain []
   acts (FloatOp these) range = plain []
   acts (FloatCmp these) range = plain []
   acts (Jmpl rd rs1 second) range =
       either (rd ∷ []) m.cwp (is_in_order m) (jumped m rd (address_in m rs1 second)) (Trapped Unmodelled)
-      (either (rd ∷ []) m.cwp (eqb (address_in m rs1 second % 4) 0) (Done (going_to (with_register m rd m.pc) (address_in m rs1 second)) false) (Trapped Misaligned)
+      (either (rd ∷ []) m.cwp (eqb (address_in m rs1 second % 4) 0) (Done (going_to (with_register m rd m.pc) (address_in m rs1 second)) false)
+      (Trapped Misaligned)
       (acts_linked rd (address_in m rs1 second) (omega arith)) tt) tt
   acts (Flush rs1 second) range = plain []
   acts (Save rd rs1 second) range = acts_turned ((m.cwp + 7) % 8) Overflow rd (address_in m rs1 second) (omega arith) (omega arith)

@@ -8,7 +8,8 @@ use Rattle.sparc_runs.proofs.Places.{next_from}
 use Rattle.sparc_runs.specs.Activation.{Activation, also_at, activations_after, activations_at, frames_of, latest, IsActive, AreActivations, ActivationsAreFrames}
 
 -- the frames behind a step
-frames_behind : (due : Transfer) (m : Machine) (place : ℕ) (these : List Activation) → frames_of (activations_after due m place these) ≡ frames_after due m (frames_of these)
+frames_behind : (due : Transfer) (m : Machine) (place : ℕ) (these : List Activation)
+    → frames_of (activations_after due m place these) ≡ frames_after due m (frames_of these)
 frames_behind Stays m place [] = refl
 frames_behind (Calls target address) m place [] = refl
 frames_behind Returns m place [] = refl
@@ -52,10 +53,12 @@ module _ (image : List ℕ) (first : Machine) (rest : List Machine) where
   active_behind Returns i (top ∷ []) h = All-nil (IsActive image first rest (suc i))
   active_behind Returns i (top ∷ below ∷ others) h =
       let tail = All-tail (IsActive image first rest i) top (below ∷ others) h in
-      All-cons (IsActive image first rest (suc i)) (also_at (suc i) below) others (also_active i below (All-head (IsActive image first rest i) below others tail))
+      All-cons (IsActive image first rest (suc i)) (also_at (suc i) below) others
+      (also_active i below (All-head (IsActive image first rest i) below others tail))
       (all_later i others (All-tail (IsActive image first rest i) below others tail))
 
-  top_behind : (due : Transfer) (m : Machine) (place : ℕ) (these : List Activation) (a : Activation) (below : List Activation) → activations_after due m place these ≡ a ∷ below → latest a ≡ place
+  top_behind : (due : Transfer) (m : Machine) (place : ℕ) (these : List Activation) (a : Activation) (below : List Activation)
+      → activations_after due m place these ≡ a ∷ below → latest a ≡ place
   top_behind due m place [] a below is = cc
   top_behind Stays m place (top ∷ under) a below is =
       let same : also_at place top ≡ a = cc in subst (λ (x : Activation). latest x ≡ place) same (end_pushed top.first place top.later)
@@ -69,7 +72,9 @@ module _ (image : List ℕ) (first : Machine) (rest : List Machine) where
   pub are : (i : ℕ) → i ≤ length rest → AreActivations image first rest i
   are zero within = record {
     frames = refl;
-    active = All-cons (IsActive image first rest 0) _ [] (record { start = refl; within = omega arith; later = All-nil (λ (place : ℕ). place ≤ 0) }) (All-nil (IsActive image first rest 0));
+    active =
+        All-cons (IsActive image first rest 0) _ [] (record { start = refl; within = omega arith; later = All-nil (λ (place : ℕ). place ≤ 0) })
+        (All-nil (IsActive image first rest 0));
     top = λ a below is. first_top a below is;
   } where
     first_top : (a : Activation) (below : List Activation) → activations_at image first rest 0 ≡ a ∷ below → latest a ≡ 0

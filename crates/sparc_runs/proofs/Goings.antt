@@ -85,11 +85,13 @@ module _ (m : Machine) where
   }
 
   -- a branch at its place
-  at_exit : (pc npc : ℕ) (x after : Machine) (annulled passed : Bool) → m.npc ≡ (m.pc + 4) % 2 ^ 32 → StandsAt pc npc x → Done x passed ≡ Done after annulled → Leads m pc npc after
+  at_exit : (pc npc : ℕ) (x after : Machine) (annulled passed : Bool) → m.npc ≡ (m.pc + 4) % 2 ^ 32 → StandsAt pc npc x
+      → Done x passed ≡ Done after annulled → Leads m pc npc after
   at_exit pc npc x after annulled passed order stands e =
       let same : x ≡ after = cc in record { order = order; to = subst (StandsAt pc npc) same stands }
 
-  exits : (annul always taken : Bool) (target : ℕ) (after : Machine) (annulled : Bool) → m.npc ≡ (m.pc + 4) % 2 ^ 32 → branched m annul always taken target ≡ Done after annulled
+  exits : (annul always taken : Bool) (target : ℕ) (after : Machine) (annulled : Bool) → m.npc ≡ (m.pc + 4) % 2 ^ 32
+      → branched m annul always taken target ≡ Done after annulled
       → BranchLeads m annul always taken target after
   exits true true true target after annulled order e = at_exit _ _ _ after annulled true order (record { this = refl; after = refl }) e
   exits true false true target after annulled order e = at_exit _ _ _ after annulled false order (record { this = refl; after = refl }) e
@@ -97,10 +99,12 @@ module _ (m : Machine) where
   exits true always false target after annulled order e = at_exit _ _ _ after annulled true order (record { this = refl; after = refl }) e
   exits false always false target after annulled order e = at_exit _ _ _ after annulled false order (record { this = refl; after = refl }) e
 
-  branch_leads : (annul taken : Bool) (condition : ℕ) (disp : ℤ) (after : Machine) (annulled : Bool) → branch_effect m annul condition taken disp ≡ Done after annulled
+  branch_leads : (annul taken : Bool) (condition : ℕ) (disp : ℤ) (after : Machine) (annulled : Bool)
+      → branch_effect m annul condition taken disp ≡ Done after annulled
       → BranchLeads m annul (eqb condition 8) taken (target_of m.pc disp) after
   branch_leads annul taken condition disp after annulled does = go (eqb_tells m.npc ((m.pc + 4) % 2 ^ 32)) where
-    go : ((eqb m.npc ((m.pc + 4) % 2 ^ 32) ≡ true) × (m.npc ≡ (m.pc + 4) % 2 ^ 32)) ⊎ ((eqb m.npc ((m.pc + 4) % 2 ^ 32) ≡ false) × (m.npc ≢ (m.pc + 4) % 2 ^ 32))
+    go : ((eqb m.npc ((m.pc + 4) % 2 ^ 32) ≡ true) × (m.npc ≡ (m.pc + 4) % 2 ^ 32))
+        ⊎ ((eqb m.npc ((m.pc + 4) % 2 ^ 32) ≡ false) × (m.npc ≢ (m.pc + 4) % 2 ^ 32))
         → BranchLeads m annul (eqb condition 8) taken (target_of m.pc disp) after
     go (inl h) =
         exits annul (eqb condition 8) taken (target_of m.pc disp) after annulled h.1
@@ -135,12 +139,14 @@ module _ (m : Machine) where
       let a : ℕ = address_in m rs1 second in
       done_plain _ after annulled (either (is_odd_double_load kind rd) _ _ tt (either (eqb (a % load_size kind) 0) _ _ (read image free kind rd a) tt)) does
   goes image free (Store kind rd rs1 second) after annulled does =
-      done_plain _ after annulled (either (is_odd_double_store kind rd) _ _ tt (unless (write_trap image (address_in m rs1 second) (store_size kind)) _ (on m refl))) does
+      done_plain _ after annulled (either (is_odd_double_store kind rd) _ _ tt
+      (unless (write_trap image (address_in m rs1 second) (store_size kind)) _ (on m refl))) does
   goes image free (Atomic swap rd rs1 second) after annulled does =
       done_plain _ after annulled (unless (write_trap image (address_in m rs1 second) (atomic_size swap)) _ (writes rd _)) does
   goes image free (FloatMem kind rd rs1 second) after annulled does =
       done_plain _ after annulled
-      (either (is_float_store kind) _ _ (unless (write_trap image (address_in m rs1 second) (float_size kind)) _ (on m refl)) (either (eqb (address_in m rs1 second % float_size kind) 0) _ _ (on m refl) tt)) does
+      (either (is_float_store kind) _ _ (unless (write_trap image (address_in m rs1 second) (float_size kind)) _ (on m refl))
+      (either (eqb (address_in m rs1 second % float_size kind) 0) _ _ (on m refl) tt)) does
   goes image free (UnmodelledWord these) after annulled does = cc
   goes image free (Unknown these) after annulled does = cc
   goes image free (Multiply sets rd rs1 second) after annulled does = done_plain _ after annulled (freely free sets rd _) does
@@ -153,7 +159,8 @@ stands_charged pc npc after cost these h = record { this = h.this; after = h.aft
 leads_charged : (m : Machine) (pc npc : ℕ) (after : Machine) (cost these : ℕ) → Leads m pc npc after → Leads m pc npc (charged after cost these)
 leads_charged m pc npc after cost these h = record { order = h.order; to = stands_charged pc npc after cost these h.to }
 
-branch_charged : (m : Machine) (annul always taken : Bool) (target : ℕ) (after : Machine) (cost these : ℕ) → BranchLeads m annul always taken target after → BranchLeads m annul always taken target (charged after cost these)
+branch_charged : (m : Machine) (annul always taken : Bool) (target : ℕ) (after : Machine) (cost these : ℕ) → BranchLeads m annul always taken target after
+    → BranchLeads m annul always taken target (charged after cost these)
 branch_charged m true true true target after cost these h = leads_charged m _ _ after cost these h
 branch_charged m true false true target after cost these h = leads_charged m _ _ after cost these h
 branch_charged m false always true target after cost these h = leads_charged m _ _ after cost these h
@@ -163,8 +170,10 @@ branch_charged m false always false target after cost these h = leads_charged m 
 goes_charged : (i : Instr) (m after : Machine) (cost these : ℕ) → Goes i m after → Goes i m (charged after cost these)
 goes_charged (Call disp) m after cost these h = leads_charged m _ _ after cost these h
 goes_charged (Jmpl rd rs1 second) m after cost these h = leads_charged m _ _ after cost these h
-goes_charged (Branch annul condition disp) m after cost these h = branch_charged m annul (eqb condition 8) (holds_of condition (flags_in m)) (target_of m.pc disp) after cost these h
-goes_charged (FloatBranch annul condition disp) m after cost these h = (h.0, branch_charged m annul (eqb condition 8) h.0 (target_of m.pc disp) after cost these h.1)
+goes_charged (Branch annul condition disp) m after cost these h =
+    branch_charged m annul (eqb condition 8) (holds_of condition (flags_in m)) (target_of m.pc disp) after cost these h
+goes_charged (FloatBranch annul condition disp) m after cost these h =
+    (h.0, branch_charged m annul (eqb condition 8) h.0 (target_of m.pc disp) after cost these h.1)
 goes_charged _ m after cost these h = stands_charged _ _ after cost these h
 
 pub steps_go : StepsGo
@@ -172,12 +181,14 @@ steps_go image cycles m next i step is =
     let s = parts image cycles m next step in
     let same : instruction_of s.this ≡ i = same_instruction image m.pc s.this i s.code is in
     subst (λ (x : Instr). Goes x m next) same
-    (subst (Goes (instruction_of s.this) m) (sym s.is) (goes_charged (instruction_of s.this) m s.after _ _ (goes m image s.free (instruction_of s.this) s.after s.annulled s.does)))
+    (subst (Goes (instruction_of s.this) m) (sym s.is)
+    (goes_charged (instruction_of s.this) m s.after _ _ (goes m image s.free (instruction_of s.this) s.after s.annulled s.does)))
 
 -- the immediate of a return is 8 or 12
 offset_of : (n : ℤ) → (int_eq n (pos 8) || int_eq n (pos 12)) ≡ true → cast_unsigned w32 n ≡ cond (int_eq n (pos 12)) 12 8
 offset_of n h = go (cases_Bool (int_eq n (pos 12))) (or_cases (int_eq n (pos 8)) (int_eq n (pos 12)) h) where
-  go : (int_eq n (pos 12) ≡ true) ⊎ (int_eq n (pos 12) ≡ false) → (int_eq n (pos 8) ≡ true) ⊎ (int_eq n (pos 12) ≡ true) → cast_unsigned w32 n ≡ cond (int_eq n (pos 12)) 12 8
+  go : (int_eq n (pos 12) ≡ true) ⊎ (int_eq n (pos 12) ≡ false) → (int_eq n (pos 8) ≡ true) ⊎ (int_eq n (pos 12) ≡ true)
+      → cast_unsigned w32 n ≡ cond (int_eq n (pos 12)) 12 8
   go (inl twelve) which =
       let is : n ≡ pos 12 = (Decides-int_eq n (pos 12)).0 twelve in
       ap (cast_unsigned w32) is ∙ sym (ap (λ (t : Bool). cond t 12 8) twelve)

@@ -21,7 +21,8 @@ pushes_high invalid target address m top rest masked high near =
     (masked.used, omega arith, high)
 
 -- the root's level is the highest
-root_is_highest : (invalid : ℕ) (top : Frame) (rest : List Frame) → AreHigh invalid (top ∷ rest) → (frame_level invalid top ≤ level_above invalid (root_window top rest)) × IsInUse invalid (root_window top rest)
+root_is_highest : (invalid : ℕ) (top : Frame) (rest : List Frame) → AreHigh invalid (top ∷ rest)
+    → (frame_level invalid top ≤ level_above invalid (root_window top rest)) × IsInUse invalid (root_window top rest)
 root_is_highest invalid top [] high = (omega arith, high)
 root_is_highest invalid top (below ∷ rest) high =
     let h = root_is_highest invalid below rest high.2 in
@@ -29,7 +30,8 @@ root_is_highest invalid top (below ∷ rest) high =
     (omega arith, h.1)
 
 -- one frame above another, and the root above both
-above : (invalid top G root : ℕ) → invalid < 8 → IsInUse invalid top → IsInUse invalid G → IsInUse invalid root → level_above invalid top ≤ level_above invalid G → level_above invalid G ≤ level_above invalid root
+above : (invalid top G root : ℕ) → invalid < 8 → IsInUse invalid top → IsInUse invalid G → IsInUse invalid root
+    → level_above invalid top ≤ level_above invalid G → level_above invalid G ≤ level_above invalid root
     → (G ≡ (top + (level_above invalid G - level_above invalid top)) % 8) × (level_above invalid G - level_above invalid top ≤ depth_from root top)
 above invalid top G root i t g r less more =
     let a = t.window in let b = t.other in let c = g.window in let d = g.other in let e = r.window in let f = r.other in
@@ -41,7 +43,8 @@ record IsBetween (invalid low high : ℕ) (G : Frame) : Type 0 where
   pub least : low ≤ frame_level invalid G
   pub most : frame_level invalid G ≤ high
 
-between : (invalid : ℕ) (top : Frame) (rest : List Frame) (G : Frame) → AreHigh invalid (top ∷ rest) → Contains (top ∷ rest) G → IsBetween invalid (frame_level invalid top) (level_above invalid (root_window top rest)) G
+between : (invalid : ℕ) (top : Frame) (rest : List Frame) (G : Frame) → AreHigh invalid (top ∷ rest) → Contains (top ∷ rest) G
+    → IsBetween invalid (frame_level invalid top) (level_above invalid (root_window top rest)) G
 between invalid top rest G high (zero, within, is) =
     subst (IsBetween invalid (frame_level invalid top) (level_above invalid (root_window top rest))) is
     (record { used = top_used invalid top rest high; least = omega arith; most = (root_is_highest invalid top rest high).0 })

@@ -41,24 +41,40 @@ divides x count within =
 
 pub sums : SumsAreMeant
 sums x y true a b = record {
-  result = record { negative = (λ h. grind (arith, nat_tests), λ h. grind (arith, nat_tests)); zero = (λ h. grind (arith, nat_tests), λ h. grind (arith, nat_tests)) };
+  result =
+      record {
+        negative = (λ h. grind (arith, nat_tests), λ h. grind (arith, nat_tests));
+        zero = (λ h. grind (arith, nat_tests), λ h. grind (arith, nat_tests));
+      };
   carries = grind (arith, nat_tests);
   overflows = (λ h. grind (arith, nat_tests), λ h. grind (arith, nat_tests));
 }
 sums x y false a b = record {
-  result = record { negative = (λ h. grind (arith, nat_tests), λ h. grind (arith, nat_tests)); zero = (λ h. grind (arith, nat_tests), λ h. grind (arith, nat_tests)) };
+  result =
+      record {
+        negative = (λ h. grind (arith, nat_tests), λ h. grind (arith, nat_tests));
+        zero = (λ h. grind (arith, nat_tests), λ h. grind (arith, nat_tests));
+      };
   carries = grind (arith, nat_tests);
   overflows = (λ h. grind (arith, nat_tests), λ h. grind (arith, nat_tests));
 }
 
 pub differences : DifferencesAreMeant
 differences x y true a b = record {
-  result = record { negative = (λ h. grind (arith, nat_tests), λ h. grind (arith, nat_tests)); zero = (λ h. grind (arith, nat_tests), λ h. grind (arith, nat_tests)) };
+  result =
+      record {
+        negative = (λ h. grind (arith, nat_tests), λ h. grind (arith, nat_tests));
+        zero = (λ h. grind (arith, nat_tests), λ h. grind (arith, nat_tests));
+      };
   borrows = grind (arith, nat_tests);
   overflows = (λ h. grind (arith, nat_tests), λ h. grind (arith, nat_tests));
 }
 differences x y false a b = record {
-  result = record { negative = (λ h. grind (arith, nat_tests), λ h. grind (arith, nat_tests)); zero = (λ h. grind (arith, nat_tests), λ h. grind (arith, nat_tests)) };
+  result =
+      record {
+        negative = (λ h. grind (arith, nat_tests), λ h. grind (arith, nat_tests));
+        zero = (λ h. grind (arith, nat_tests), λ h. grind (arith, nat_tests));
+      };
   borrows = grind (arith, nat_tests);
   overflows = (λ h. grind (arith, nat_tests), λ h. grind (arith, nat_tests));
 }

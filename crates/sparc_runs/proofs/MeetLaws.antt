@@ -17,7 +17,8 @@ use Rattle.sparc_runs.proofs.Stepping.{IsStep, parts}
 use Rattle.sparc_runs.proofs.Transfers.{jump_parts}
 use Rattle.sparc_runs.specs.Meets.{Heads, IsMet, Meets, SightsMeet, TargetsAreTaken, sight_at, sight_of, target_by}
 
-shown : (image : List ℕ) (heads : Heads) (first : Machine) (rest : List Machine) (i : ℕ) → i ≤ length rest → (says : BoundBody) → IsMet image heads first rest says → IsMetBy says (sight_at image first rest i)
+shown : (image : List ℕ) (heads : Heads) (first : Machine) (rest : List Machine) (i : ℕ) → i ≤ length rest → (says : BoundBody)
+    → IsMet image heads first rest says → IsMetBy says (sight_at image first rest i)
 shown image heads first rest i within (body.Root entry) h = tt
 shown image heads first rest i within (body.Never pc) h = h i within
 shown image heads first rest i within (body.At pc reg lo hi) h = h i within
@@ -32,7 +33,8 @@ sights_meet image heads first rest list meets i within =
     (λ a. shown image heads first rest i within a.body) list meets
 
 -- a jump goes where it shows
-goes_there : (image : List ℕ) (free : Free) (m after : Machine) (annulled : Bool) (target : ℕ) (i : Instr) → effect_of image free m i ≡ Done after annulled → target_by m (Some i) ≡ Some target → after.npc ≡ target
+goes_there : (image : List ℕ) (free : Free) (m after : Machine) (annulled : Bool) (target : ℕ) (i : Instr) → effect_of image free m i ≡ Done after annulled
+    → target_by m (Some i) ≡ Some target → after.npc ≡ target
 goes_there image free m after annulled target (Jmpl rd rs1 second) does shows =
     let jump = jump_parts m after rd (address_in m rs1 second) annulled does in
     let same : address_in m rs1 second ≡ target = cc in

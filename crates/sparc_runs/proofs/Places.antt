@@ -6,7 +6,8 @@ use Rattle.sparc_machine.specs.Frame.{Frame, Transfer, Stays, Calls, Returns, Co
 use Rattle.sparc_machine.specs.declared.machine.Machine.{Machine}
 use Rattle.sparc_runs.specs.Place.{RunsAreAtPlaces, EmptyStacksStay}
 
-machine_from : (image : List ℕ) (c : Config) (rest : List Machine) (i : ℕ) → i ≤ length rest → slice_get (c.machine ∷ rest) i ≡ Some (config_from image c rest i).machine
+machine_from : (image : List ℕ) (c : Config) (rest : List Machine) (i : ℕ) → i ≤ length rest
+    → slice_get (c.machine ∷ rest) i ≡ Some (config_from image c rest i).machine
 machine_from image c rest zero within = refl
 machine_from image c [] (suc i) within = absurd (omega arith)
 machine_from image c (next ∷ rest) (suc i) within = machine_from image (config_after image c next) rest i (omega arith)
@@ -34,8 +35,12 @@ at_places image cycles first rest runs = record {
   frames = λ i within. ap (λ (c : Config). c.frames) (next_from image (first_config first) rest i within);
 }
 
+-- each step keeps what holds of where it begins
+abbrev pub IsKept : List ℕ → List ℕ → (Config → Type 0) → Type 0
+IsKept image cycles P = (c : Config) (next : Machine) → P c → StepsTo image cycles c.machine next → P (config_after image c next)
+
 -- what holds of where a run begins, and is kept by each step, holds at each place
-module _ (image cycles : List ℕ) (P : Config → Type 0) (keeps : (c : Config) (next : Machine) → P c → StepsTo image cycles c.machine next → P (config_after image c next)) where
+module _ (image cycles : List ℕ) (P : Config → Type 0) (keeps : IsKept image cycles P) where
   pub throughout : (c : Config) (rest : List Machine) → P c → RunsFrom image cycles c.machine rest → (i : ℕ) → P (config_from image c rest i)
   throughout c rest holds runs zero = holds
   throughout c [] holds runs (suc i) = holds
@@ -54,7 +59,8 @@ none_from image c rest zero none = none
 none_from image c [] (suc j) none = none
 none_from image c (next ∷ rest) (suc j) none = none_from image (config_after image c next) rest j (none_after c.due next c.frames none)
 
-none_behind : (image : List ℕ) (c : Config) (rest : List Machine) (i j : ℕ) → i ≤ j → (config_from image c rest i).frames ≡ [] → (config_from image c rest j).frames ≡ []
+none_behind : (image : List ℕ) (c : Config) (rest : List Machine) (i j : ℕ) → i ≤ j → (config_from image c rest i).frames ≡ []
+    → (config_from image c rest j).frames ≡ []
 none_behind image c rest zero j less none = none_from image c rest j none
 none_behind image c rest (suc i) zero less none = absurd (omega arith)
 none_behind image c [] (suc i) (suc j) less none = none

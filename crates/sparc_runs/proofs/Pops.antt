@@ -59,7 +59,8 @@ module _ (m : Machine) where
   branched_order : (annul always taken : Bool) (target : ℕ) → m.npc ≡ (m.pc + 4) % 2 ^ 32 → OrderAfter (branched m annul always taken target)
   branched_order annul always true target e =
       either (annul && always) (Done (record m { pc = target; npc = (target + 4) % 2 ^ 32 }) true) (Done (going_to m target) false) (inl refl) (inr (e, refl))
-  branched_order annul always false target e = either annul (Done (record m { pc = (m.pc + 8) % 2 ^ 32; npc = (m.pc + 12) % 2 ^ 32 }) true) (goes_on m) (inl (omega arith)) (inl refl)
+  branched_order annul always false target e =
+      either annul (Done (record m { pc = (m.pc + 8) % 2 ^ 32; npc = (m.pc + 12) % 2 ^ 32 }) true) (goes_on m) (inl (omega arith)) (inl refl)
 
   read_order : (image : List ℕ) (free : Free) (kind : LoadKind) (r a : ℕ) → OrderAfter (read_into image free m kind r a)
   read_order image free Ld r a = inl refl
@@ -80,7 +81,8 @@ module _ (m : Machine) where
   order image free (Unimp imm) = tt
   order image free (Sethi rd imm) = inl refl
   order image free (Branch annul condition disp) = ordered _ (branched_order annul (eqb condition 8) (holds_of condition (flags_in m)) (target_of m.pc disp))
-  order image free (FloatBranch annul condition disp) = ordered _ (branched_order annul (eqb condition 8) (float_taken condition free.taken) (target_of m.pc disp))
+  order image free (FloatBranch annul condition disp) =
+      ordered _ (branched_order annul (eqb condition 8) (float_taken condition free.taken) (target_of m.pc disp))
   order image free (Alu op true rd rs1 second) = inl refl
   order image free (Alu op false rd rs1 second) = inl refl
   order image free (Tagged op rd rs1 second) = inl refl
@@ -92,24 +94,29 @@ module _ (m : Machine) where
   order image free (FloatCmp these) = inl refl
   order image free (Jmpl rd rs1 second) =
       ordered (jumped m rd (address_in m rs1 second))
-      (λ e. either (eqb (address_in m rs1 second % 4) 0) (Done (going_to (with_register m rd m.pc) (address_in m rs1 second)) false) (Trapped Misaligned) (inr (e, written_npc rd m.pc)) tt)
+      (λ e. either (eqb (address_in m rs1 second % 4) 0) (Done (going_to (with_register m rd m.pc) (address_in m rs1 second)) false) (Trapped Misaligned)
+      (inr (e, written_npc rd m.pc)) tt)
   order image free (Flush rs1 second) = inl refl
   order image free (Save rd rs1 second) = either (is_invalid m.wim ((m.cwp + 7) % 8)) _ _ tt (inl refl)
   order image free (Restore rd rs1 second) = either (is_invalid m.wim ((m.cwp + 1) % 8)) _ _ tt (inl refl)
   order image free (Ticc condition rs1 second) = either (eqb condition 0) _ _ (inl refl) tt
   order image free (Load kind rd rs1 second) =
-      either (is_odd_double_load kind rd) _ _ tt (either (eqb (address_in m rs1 second % load_size kind) 0) _ _ (read_order image free kind rd (address_in m rs1 second)) tt)
-  order image free (Store kind rd rs1 second) = either (is_odd_double_store kind rd) _ _ tt (unless (write_trap image (address_in m rs1 second) (store_size kind)) _ (inl refl))
+      either (is_odd_double_load kind rd) _ _ tt
+      (either (eqb (address_in m rs1 second % load_size kind) 0) _ _ (read_order image free kind rd (address_in m rs1 second)) tt)
+  order image free (Store kind rd rs1 second) =
+      either (is_odd_double_store kind rd) _ _ tt (unless (write_trap image (address_in m rs1 second) (store_size kind)) _ (inl refl))
   order image free (Atomic swap rd rs1 second) = unless (write_trap image (address_in m rs1 second) (atomic_size swap)) _ (inl refl)
   order image free (FloatMem kind rd rs1 second) =
-      either (is_float_store kind) _ _ (unless (write_trap image (address_in m rs1 second) (float_size kind)) _ (inl refl)) (either (eqb (address_in m rs1 second % float_size kind) 0) _ _ (inl refl) tt)
+      either (is_float_store kind) _ _ (unless (write_trap image (address_in m rs1 second) (float_size kind)) _ (inl refl))
+      (either (eqb (address_in m rs1 second % float_size kind) 0) _ _ (inl refl) tt)
   order image free (UnmodelledWord these) = tt
   order image free (Unknown these) = tt
   order image free (Multiply sets rd rs1 second) = inl refl
   order image free (Divide sets rd rs1 second) = inl refl
 
   -- a transfer that isn't a branch is in order
-  transfer_order : (image : List ℕ) (free : Free) (i : Instr) (delay : Option Instr) (after : Machine) (annulled : Bool) → effect_of image free m i ≡ Done after annulled
+  transfer_order : (image : List ℕ) (free : Free) (i : Instr) (delay : Option Instr) (after : Machine) (annulled : Bool)
+      → effect_of image free m i ≡ Done after annulled
       → (transfer_by m i delay ≡ Stays) ⊎ ((m.npc ≡ (m.pc + 4) % 2 ^ 32) × (after.pc ≡ m.npc))
   transfer_order image free (Call disp) delay after annulled does =
       let h = call_parts m after ((m.pc + disp * 4) % 2 ^ 32) annulled does in inr (h.order, ap (λ (x : Machine). x.pc) h.is)
@@ -118,11 +125,13 @@ module _ (m : Machine) where
   transfer_order image free _ delay after annulled does = inl refl
 
 -- what an effect leads to, where it is done
-done_order : (m after : Machine) (annulled : Bool) (x : Effect) → OrderAfter m x → x ≡ Done after annulled → (after.npc ≡ (after.pc + 4) % 2 ^ 32) ⊎ ((m.npc ≡ (m.pc + 4) % 2 ^ 32) × (after.pc ≡ m.npc))
+done_order : (m after : Machine) (annulled : Bool) (x : Effect) → OrderAfter m x → x ≡ Done after annulled
+    → (after.npc ≡ (after.pc + 4) % 2 ^ 32) ⊎ ((m.npc ≡ (m.pc + 4) % 2 ^ 32) × (after.pc ≡ m.npc))
 done_order m after annulled x h e = subst (OrderAfter m) e h
 
 -- a transfer that ends behind the call that it stands behind can't be: the word there is the call's
-not_behind : (image : List ℕ) (m : Machine) (pc caller : ℕ) → m.pc < 2 ^ 32 → caller < 2 ^ 32 → IsReturning image m → passes is_call (code_instruction image caller) ≡ true → pc ≡ (caller + 8) % 2 ^ 32
+not_behind : (image : List ℕ) (m : Machine) (pc caller : ℕ) → m.pc < 2 ^ 32 → caller < 2 ^ 32 → IsReturning image m
+    → passes is_call (code_instruction image caller) ≡ true → pc ≡ (caller + 8) % 2 ^ 32
     → m.npc ≡ (m.pc + 4) % 2 ^ 32 → pc ≡ m.npc → ⊥
 not_behind image m pc caller within word leaves call behind order at =
     let there : (m.pc + 2 ^ 32 - 4) % 2 ^ 32 ≡ caller = omega arith in
@@ -142,17 +151,20 @@ pops_go_on image cycles invalid c next F running due step word call behind = rec
   never : (c.machine.npc ≡ (c.machine.pc + 4) % 2 ^ 32) × (s.after.pc ≡ c.machine.npc) → ⊥
   never h = not_behind image c.machine next.pc F.caller running.machine.pc word leaves call behind h.0 (there ∙ h.1)
 
-  npc_by : (s.after.npc ≡ (s.after.pc + 4) % 2 ^ 32) ⊎ ((c.machine.npc ≡ (c.machine.pc + 4) % 2 ^ 32) × (s.after.pc ≡ c.machine.npc)) → next.npc ≡ (F.caller + 12) % 2 ^ 32
+  npc_by : (s.after.npc ≡ (s.after.pc + 4) % 2 ^ 32) ⊎ ((c.machine.npc ≡ (c.machine.pc + 4) % 2 ^ 32) × (s.after.pc ≡ c.machine.npc))
+      → next.npc ≡ (F.caller + 12) % 2 ^ 32
   npc_by (inl h) = (let to : next.npc ≡ s.after.npc = ap (λ (x : Machine). x.npc) s.is in let at = there in omega arith)
   npc_by (inr h) = absurd (never h)
 
   npc : next.npc ≡ (F.caller + 12) % 2 ^ 32
   npc = npc_by (done_order c.machine s.after s.annulled _ (order c.machine image s.free (instruction_of s.this)) s.does)
 
-  stays_by : (transfer_by c.machine (instruction_of s.this) (instruction_at image ((c.machine.pc + 4) % 2 ^ 32)) ≡ Stays) ⊎ ((c.machine.npc ≡ (c.machine.pc + 4) % 2 ^ 32) × (s.after.pc ≡ c.machine.npc))
+  stays_by : (transfer_by c.machine (instruction_of s.this) (instruction_at image ((c.machine.pc + 4) % 2 ^ 32)) ≡ Stays)
+      ⊎ ((c.machine.npc ≡ (c.machine.pc + 4) % 2 ^ 32) × (s.after.pc ≡ c.machine.npc))
       → transfer_of image c.machine ≡ Stays
   stays_by (inl h) = transfer_is image c.machine s.this s.code ∙ h
   stays_by (inr h) = absurd (never h)
 
   stays : transfer_of image c.machine ≡ Stays
-  stays = stays_by (transfer_order c.machine image s.free (instruction_of s.this) (instruction_at image ((c.machine.pc + 4) % 2 ^ 32)) s.after s.annulled s.does)
+  stays =
+      stays_by (transfer_order c.machine image s.free (instruction_of s.this) (instruction_at image ((c.machine.pc + 4) % 2 ^ 32)) s.after s.annulled s.does)

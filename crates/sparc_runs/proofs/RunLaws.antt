@@ -19,7 +19,8 @@ keep_running image cycles invalid c next bytes running step = record {
 }
 
 -- a frame that is pushed behind a call, onto a stack of pushed frames
-pushed_behind : (image cycles : List ℕ) (invalid : ℕ) (first : Machine) (due : Transfer) (m next : Machine) (frames : List Frame) → IsMachine m → IsMachine next → IsMasked invalid next
+pushed_behind : (image cycles : List ℕ) (invalid : ℕ) (first : Machine) (due : Transfer) (m next : Machine) (frames : List Frame) → IsMachine m
+    → IsMachine next → IsMasked invalid next
     → IsDue image due m → StepsTo image cycles m next → ArePushed image invalid first frames → ArePushed image invalid first (frames_after due next frames)
 pushed_behind image cycles invalid first Stays m next frames machine new mask is step pushed = pushed
 pushed_behind image cycles invalid first (Calls target address) m next [] machine new mask is step pushed = tt
@@ -35,7 +36,8 @@ record Holds (image : List ℕ) (invalid : ℕ) (first : Machine) (c : Config) :
   pub running : IsRunning image invalid c
   pub pushed : ArePushed image invalid first c.frames
 
-kept : (image cycles : List ℕ) (invalid : ℕ) (first : Machine) → AreBytes image → (c : Config) (next : Machine) → Holds image invalid first c → StepsTo image cycles c.machine next
+kept : (image cycles : List ℕ) (invalid : ℕ) (first : Machine) → AreBytes image → (c : Config) (next : Machine) → Holds image invalid first c
+    → StepsTo image cycles c.machine next
     → Holds image invalid first (config_after image c next)
 kept image cycles invalid first bytes c next h step =
     let after = keep_running image cycles invalid c next bytes h.running step in

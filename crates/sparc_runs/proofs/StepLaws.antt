@@ -40,7 +40,9 @@ module _ (image cycles : List ℕ) (m next : Machine) (s : IsStep image cycles m
 
   -- what it does
   pub acted : Acts image s.free m (registers_written the_instruction) (window_behind the_instruction m.cwp) s.after
-  acted = subst (ActsAfter image s.free m (registers_written the_instruction) (window_behind the_instruction m.cwp)) s.does (acts image s.free m the_instruction (all_in_range s.this))
+  acted =
+      subst (ActsAfter image s.free m (registers_written the_instruction) (window_behind the_instruction m.cwp)) s.does
+      (acts image s.free m the_instruction (all_in_range s.this))
 
   pub same_window : next.cwp ≡ s.after.cwp
   same_window = ap (λ (x : Machine). x.cwp) s.is
@@ -60,7 +62,16 @@ module _ (image cycles : List ℕ) (m next : Machine) (s : IsStep image cycles m
   is_machine bytes machine =
       let k = acted.machine (record { bytes = bytes; within = s.within; machine = machine }) in
       let whole : IsMachine (charged s.after (step_cost cycles m.loaded the_instruction s.annulled) (mask_of (registers_loaded the_instruction))) =
-      record { registers = k.registers; words = k.words; pc = k.pc; npc = k.npc; window = k.window; mask = k.mask; loaded = set_is_word (registers_loaded the_instruction) } in
+      record {
+        registers = k.registers;
+        words = k.words;
+        pc = k.pc;
+        npc = k.npc;
+        window = k.window;
+        mask = k.mask;
+        loaded = set_is_word
+            (registers_loaded the_instruction);
+      } in
       subst IsMachine (sym s.is) whole
 
 pub writes_only : StepsWriteOnly
@@ -77,9 +88,11 @@ marked w =
     let one : 2 ^ w / 2 ^ w ≡ 1 = div_self (pow_pos w) in
     eq-eqb (2 ^ w / 2 ^ w % 2) 1 (ap (λ (q : ℕ). q % 2) one)
 
-turned_in_use : (m after : Machine) (w : ℕ) (trap : Trap) (r v invalid : ℕ) (annulled : Bool) → w < 8 → m.wim ≡ 2 ^ invalid → turned m w trap r v ≡ Done after annulled → IsInUse invalid w
+turned_in_use : (m after : Machine) (w : ℕ) (trap : Trap) (r v invalid : ℕ) (annulled : Bool) → w < 8 → m.wim ≡ 2 ^ invalid
+    → turned m w trap r v ≡ Done after annulled → IsInUse invalid w
 turned_in_use m after w trap r v invalid annulled below mask does = go (is_invalid m.wim w) refl does where
-  go : (b : Bool) → is_invalid m.wim w ≡ b → cond b (Trapped trap) (goes_on (with_register (record m { cwp = w }) r v)) ≡ Done after annulled → IsInUse invalid w
+  go : (b : Bool) → is_invalid m.wim w ≡ b → cond b (Trapped trap) (goes_on (with_register (record m { cwp = w }) r v)) ≡ Done after annulled
+      → IsInUse invalid w
   go true e h = cc
   go false e h = record {
     window = below;
@@ -106,7 +119,8 @@ stay_in_use image cycles m next invalid masked step =
       used = subst (IsInUse invalid) (sym (window_is image cycles m next s)) used;
     }
 
-moves : (invalid : ℕ) (i : Instr) (m next : Machine) → invalid < 8 → IsInUse invalid m.cwp → IsInUse invalid (window_behind i m.cwp) → next.cwp ≡ window_behind i m.cwp → MovesLevel invalid i m next
+moves : (invalid : ℕ) (i : Instr) (m next : Machine) → invalid < 8 → IsInUse invalid m.cwp → IsInUse invalid (window_behind i m.cwp)
+    → next.cwp ≡ window_behind i m.cwp → MovesLevel invalid i m next
 moves invalid (Save rd rs1 second) m next below used behind is =
     let a = used.window in let b = used.other in let c = behind.other in omega arith
 moves invalid (Restore rd rs1 second) m next below used behind is =
@@ -171,7 +185,8 @@ module _ (m : Machine) where
   branch_done : (annul taken : Bool) (condition : ℕ) (disp : ℤ) (after : Machine) (annulled : Bool)
       → branch_effect m annul condition taken disp ≡ Done after annulled → annulled ≡ branch_annuls annul condition m.pc after.pc
   branch_done annul taken condition disp after annulled does = go (eqb_tells m.npc ((m.pc + 4) % 2 ^ 32)) where
-    go : ((eqb m.npc ((m.pc + 4) % 2 ^ 32) ≡ true) × (m.npc ≡ (m.pc + 4) % 2 ^ 32)) ⊎ ((eqb m.npc ((m.pc + 4) % 2 ^ 32) ≡ false) × (m.npc ≢ (m.pc + 4) % 2 ^ 32))
+    go : ((eqb m.npc ((m.pc + 4) % 2 ^ 32) ≡ true) × (m.npc ≡ (m.pc + 4) % 2 ^ 32))
+        ⊎ ((eqb m.npc ((m.pc + 4) % 2 ^ 32) ≡ false) × (m.npc ≢ (m.pc + 4) % 2 ^ 32))
         → annulled ≡ branch_annuls annul condition m.pc after.pc
     go (inl h) =
         let there : branched m annul (eqb condition 8) taken (target_of m.pc disp) ≡ Done after annulled =
@@ -188,12 +203,15 @@ module _ (m : Machine) where
   settled (Trapped trap) after annulled h e = cc
 
   -- each instruction passes over as it says
-  pub annulled_is : (image : List ℕ) (free : Free) (i : Instr) (after : Machine) (annulled : Bool) → effect_of image free m i ≡ Done after annulled → annulled ≡ annuls (Some i) m.pc after.pc
+  pub annulled_is : (image : List ℕ) (free : Free) (i : Instr) (after : Machine) (annulled : Bool) → effect_of image free m i ≡ Done after annulled
+      → annulled ≡ annuls (Some i) m.pc after.pc
   annulled_is image free (Call disp) after annulled does = settled _ after annulled (either (is_in_order m) _ _ refl tt) does
   annulled_is image free (Unimp imm) after annulled does = cc
   annulled_is image free (Sethi rd imm) after annulled does = settled _ after annulled refl does
-  annulled_is image free (Branch annul condition disp) after annulled does = branch_done annul (holds_of condition (flags_in m)) condition disp after annulled does
-  annulled_is image free (FloatBranch annul condition disp) after annulled does = branch_done annul (float_taken condition free.taken) condition disp after annulled does
+  annulled_is image free (Branch annul condition disp) after annulled does =
+      branch_done annul (holds_of condition (flags_in m)) condition disp after annulled does
+  annulled_is image free (FloatBranch annul condition disp) after annulled does =
+      branch_done annul (float_taken condition free.taken) condition disp after annulled does
   annulled_is image free (Alu op true rd rs1 second) after annulled does = settled _ after annulled refl does
   annulled_is image free (Alu op false rd rs1 second) after annulled does = settled _ after annulled refl does
   annulled_is image free (Tagged op rd rs1 second) after annulled does = settled _ after annulled refl does
@@ -206,8 +224,10 @@ module _ (m : Machine) where
   annulled_is image free (Jmpl rd rs1 second) after annulled does =
       settled _ after annulled (either (is_in_order m) _ _ (either (eqb (address_in m rs1 second % 4) 0) _ _ refl tt) tt) does
   annulled_is image free (Flush rs1 second) after annulled does = settled _ after annulled refl does
-  annulled_is image free (Save rd rs1 second) after annulled does = settled _ after annulled (turned_quiet ((m.cwp + 7) % 8) Overflow rd (address_in m rs1 second)) does
-  annulled_is image free (Restore rd rs1 second) after annulled does = settled _ after annulled (turned_quiet ((m.cwp + 1) % 8) Underflow rd (address_in m rs1 second)) does
+  annulled_is image free (Save rd rs1 second) after annulled does =
+      settled _ after annulled (turned_quiet ((m.cwp + 7) % 8) Overflow rd (address_in m rs1 second)) does
+  annulled_is image free (Restore rd rs1 second) after annulled does =
+      settled _ after annulled (turned_quiet ((m.cwp + 1) % 8) Underflow rd (address_in m rs1 second)) does
   annulled_is image free (Ticc condition rs1 second) after annulled does = settled _ after annulled (either (eqb condition 0) _ _ refl tt) does
   annulled_is image free (Load kind rd rs1 second) after annulled does =
       let a : ℕ = address_in m rs1 second in
@@ -218,7 +238,8 @@ module _ (m : Machine) where
       settled _ after annulled (unless (write_trap image (address_in m rs1 second) (atomic_size swap)) _ refl) does
   annulled_is image free (FloatMem kind rd rs1 second) after annulled does =
       settled _ after annulled
-      (either (is_float_store kind) _ _ (unless (write_trap image (address_in m rs1 second) (float_size kind)) _ refl) (either (eqb (address_in m rs1 second % float_size kind) 0) _ _ refl tt)) does
+      (either (is_float_store kind) _ _ (unless (write_trap image (address_in m rs1 second) (float_size kind)) _ refl)
+      (either (eqb (address_in m rs1 second % float_size kind) 0) _ _ refl tt)) does
   annulled_is image free (UnmodelledWord these) after annulled does = cc
   annulled_is image free (Unknown these) after annulled does = cc
   annulled_is image free (Multiply cc' rd rs1 second) after annulled does = settled _ after annulled refl does
@@ -228,9 +249,11 @@ module _ (m : Machine) where
 cost_parts : (costs : List ℕ) (i : Instr) (annulled : Bool) (spent loaded from to : ℕ) → annulled ≡ annuls (Some i) from to
     → spent + step_cost costs loaded i annulled ≡ spent + pair_of costs loaded i + own_cost costs (Some i) + annulled_cost costs (Some i) from to
 cost_parts costs i true spent loaded from to is =
-    subst (λ (b : Bool). spent + step_cost costs loaded i true ≡ spent + pair_of costs loaded i + own_cost costs (Some i) + cond b (cost_at costs Annulled) 0) is (omega arith)
+    subst (λ (b : Bool). spent + step_cost costs loaded i true ≡ spent + pair_of costs loaded i + own_cost costs (Some i) + cond b
+    (cost_at costs Annulled) 0) is (omega arith)
 cost_parts costs i false spent loaded from to is =
-    subst (λ (b : Bool). spent + step_cost costs loaded i false ≡ spent + pair_of costs loaded i + own_cost costs (Some i) + cond b (cost_at costs Annulled) 0) is (omega arith)
+    subst (λ (b : Bool). spent + step_cost costs loaded i false ≡ spent + pair_of costs loaded i + own_cost costs (Some i) + cond b
+    (cost_at costs Annulled) 0) is (omega arith)
 
 pub steps_cost : StepsCost
 steps_cost image costs m next step =
@@ -245,4 +268,7 @@ steps_cost image costs m next step =
     spent ∙ cost_parts costs i s.annulled m.cycles m.loaded m.pc s.after.pc passed in
     let there : next.cycles ≡ m.cycles + pair_of costs m.loaded i + own_cost costs (Some i) + annulled_cost costs (Some i) m.pc next.pc =
     whole ∙ ap (λ (p : ℕ). m.cycles + pair_of costs m.loaded i + own_cost costs (Some i) + annulled_cost costs (Some i) m.pc p) pc in
-    record { cycles = subst (λ (o : Option Instr). next.cycles ≡ m.cycles + pair_cost costs m.loaded o + own_cost costs o + annulled_cost costs o m.pc next.pc) (sym here) there }
+    record {
+      cycles = subst (λ (o : Option Instr). next.cycles ≡ m.cycles + pair_cost costs m.loaded o + own_cost costs o
+          + annulled_cost costs o m.pc next.pc) (sym here) there;
+    }

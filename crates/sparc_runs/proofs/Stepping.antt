@@ -29,7 +29,8 @@ pub parts : (image cycles : List ℕ) (m next : Machine) → StepsTo image cycle
 parts image cycles m next s = by_word (code_word image m.pc) refl s.steps where
   by_effect : (this : ℕ) → code_word image m.pc ≡ Some this → (e : Effect) → effect_of image s.free m (instruction_of this) ≡ e
       → paid cycles m.loaded (instruction_of this) e ≡ Stepped next → IsStep image cycles m next
-  by_effect this code (Done after annulled) does h = record { free = s.free; within = s.within; this = this; code = code; after = after; annulled = annulled; does = does; is = cc }
+  by_effect this code (Done after annulled) does h =
+      record { free = s.free; within = s.within; this = this; code = code; after = after; annulled = annulled; does = does; is = cc }
   by_effect this code (Trapped trap) does h = cc
 
   by_model : (this : ℕ) → code_word image m.pc ≡ Some this → (b : Bool)

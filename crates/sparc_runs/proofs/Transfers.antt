@@ -47,7 +47,8 @@ pub jump_parts : (m after : Machine) (rd target : ℕ) (annulled : Bool) → in_
 jump_parts m after rd target annulled does =
     let h = ordered m after (jumped m rd target) annulled does in
     record { order = h.0; is = go (eqb (target % 4) 0) h.1 } where
-      go : (b : Bool) → cond b (Done (going_to (with_register m rd m.pc) target) false) (Trapped Misaligned) ≡ Done after annulled → after ≡ going_to (with_register m rd m.pc) target
+      go : (b : Bool) → cond b (Done (going_to (with_register m rd m.pc) target) false) (Trapped Misaligned) ≡ Done after annulled
+          → after ≡ going_to (with_register m rd m.pc) target
       go true e = cc
       go false e = cc
 
@@ -65,7 +66,8 @@ instruction_there image a this h = ap (λ (w : Option ℕ). option_map instructi
 -- the instruction that a step executes says what is due behind it
 pub transfer_is : (image : List ℕ) (m : Machine) (this : ℕ) → code_word image m.pc ≡ Some this
     → transfer_of image m ≡ transfer_by m (instruction_of this) (instruction_at image ((m.pc + 4) % 2 ^ 32))
-transfer_is image m this code = ap (λ (o : Option Instr). transfer_from m o (instruction_at image ((m.pc + 4) % 2 ^ 32))) (instruction_there image m.pc this code)
+transfer_is image m this code =
+    ap (λ (o : Option Instr). transfer_from m o (instruction_at image ((m.pc + 4) % 2 ^ 32))) (instruction_there image m.pc this code)
 
 -- the register that a transfer leaves its address in
 linked : (m : Machine) (target : ℕ) → IsMachine m → register_of (going_to (with_register m 15 m.pc) target) 15 ≡ m.pc
@@ -79,7 +81,8 @@ module _ (image cycles : List ℕ) (m next : Machine) (s : IsStep image cycles m
   delay = instruction_at image ((m.pc + 4) % 2 ^ 32)
 
   -- what is due behind a transfer that is a call
-  calling : (target : ℕ) (is : passes is_call (code_instruction image m.pc) ≡ true) → lets_call delay ≡ true → IsJump m s.after 15 target → IsCalling image target m.pc next
+  calling : (target : ℕ) (is : passes is_call (code_instruction image m.pc) ≡ true) → lets_call delay ≡ true → IsJump m s.after 15 target
+      → IsCalling image target m.pc next
   calling target is lets jump =
       let there : next.pc ≡ s.after.pc = ap (λ (x : Machine). x.pc) s.is in
       let behind : next.npc ≡ s.after.npc = ap (λ (x : Machine). x.npc) s.is in
@@ -113,7 +116,8 @@ module _ (image cycles : List ℕ) (m next : Machine) (s : IsStep image cycles m
   passed test i is holds =
       ap (λ (w : Option ℕ). passes test (option_map instruction_of w)) s.code ∙ ap test is ∙ holds
 
-  due_by : (i : Instr) → instruction_of s.this ≡ i → effect_of image s.free m i ≡ Done s.after s.annulled → (t : Transfer) → transfer_by m i delay ≡ t → IsDue image t next
+  due_by : (i : Instr) → instruction_of s.this ≡ i → effect_of image s.free m i ≡ Done s.after s.annulled → (t : Transfer) → transfer_by m i delay ≡ t
+      → IsDue image t next
   due_by (Call disp) is does t due = go (lets_call delay) refl due where
     jump : IsJump m s.after 15 ((m.pc + disp * 4) % 2 ^ 32)
     jump = call_parts m s.after ((m.pc + disp * 4) % 2 ^ 32) s.annulled does
@@ -135,7 +139,8 @@ module _ (image cycles : List ℕ) (m next : Machine) (s : IsStep image cycles m
         let call : Calls (address_in m rs1 second) m.pc ≡ t =
         subst (λ (x : Bool). cond x (Calls (address_in m rs1 second) m.pc) (cond (is_return rd rs1 second) Returns Stays) ≡ t) (λ j. h.0 j && lets j) e in
         subst (λ (x : Transfer). IsDue image x next) call
-        (calling (address_in m rs1 second) (passed is_call (Jmpl rd rs1 second) is h.0) lets (subst (λ (x : ℕ). IsJump m s.after x (address_in m rs1 second)) h.1 jump))
+        (calling (address_in m rs1 second) (passed is_call (Jmpl rd rs1 second) is h.0) lets
+        (subst (λ (x : ℕ). IsJump m s.after x (address_in m rs1 second)) h.1 jump))
     go (inl h) false lets r ret e =
         back (is_return rd rs1 second) refl
         (subst (λ (x : Bool). cond x (Calls (address_in m rs1 second) m.pc) (cond (is_return rd rs1 second) Returns Stays) ≡ t) (λ j. h.0 j && lets j) e)
@@ -188,7 +193,8 @@ apart cwp r w few other same = elim (cases_lt r 8) [
       let here : r ≡ physical_of cwp 15 = subst (λ (b : Bool). cond b r (8 + (16 * cwp + r - 8) % 128) ≡ physical_of cwp 15) (lt-ltb r 8 low) same in
       omega arith
   | inr high ↦
-      let here : 8 + (16 * cwp + r - 8) % 128 ≡ physical_of cwp 15 = subst (λ (b : Bool). cond b r (8 + (16 * cwp + r - 8) % 128) ≡ physical_of cwp 15) (le-ltb r 8 high) same in
+      let here : 8 + (16 * cwp + r - 8) % 128 ≡ physical_of cwp 15 = subst (λ (b : Bool). cond b r (8 + (16 * cwp + r - 8) % 128) ≡ physical_of cwp 15)
+      (le-ltb r 8 high) same in
       omega arith
 ]
 

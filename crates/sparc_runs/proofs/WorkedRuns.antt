@@ -60,7 +60,16 @@ registers_are_words =
 pub worked_run : IsWorkedRun
 worked_run = record {
   begins = record {
-    machine = record { registers = refl; words = registers_are_words; pc = omega arith; npc = omega arith; window = omega arith; mask = omega arith; loaded = omega arith };
+    machine =
+        record {
+          registers = refl;
+          words = registers_are_words;
+          pc = omega arith;
+          npc = omega arith;
+          window = omega arith;
+          mask = omega arith;
+          loaded = omega arith;
+        };
     pc = refl;
     npc = refl;
     mask = (1, omega arith, refl, λ same. omega arith);
@@ -173,7 +182,8 @@ met_loop i above a below within is h before stretch after has pc split inside =
     let one : Few a = of_each Few (activations_at image at_call behind i) above a below (few i within) is in
     let at : h ≡ 4104 = pc in
     let part = part_passes h before stretch after (map (λ k. (machine_at image at_call behind k).pc) (places_of a)) split in
-    let same : passes h (map (λ k. (machine_at image at_call behind k).pc) (places_of a)) ≡ passes 4104 (map (λ k. (machine_at image at_call behind k).pc) (places_of a)) =
+    let same : passes h (map (λ k. (machine_at image at_call behind k).pc) (places_of a)) ≡ passes 4104
+    (map (λ k. (machine_at image at_call behind k).pc) (places_of a)) =
     ap (λ (x : ℕ). passes x (map (λ k. (machine_at image at_call behind k).pc) (places_of a))) at in
     omega arith
 

@@ -60,4 +60,5 @@ pub record LeadsBack (m : Machine) (i : Instr) (next : Machine) : Type 0 where
 
 abbrev pub ReturnsLeadBack : Type 0
 ReturnsLeadBack =
-    (image cycles : List ℕ) (m next : Machine) (i : Instr) → StepsTo image cycles m next → code_instruction image m.pc ≡ Some i → returns i ≡ true → LeadsBack m i next
+    (image cycles : List ℕ) (m next : Machine) (i : Instr) → StepsTo image cycles m next → code_instruction image m.pc ≡ Some i → returns i ≡ true
+    → LeadsBack m i next

@@ -10,9 +10,11 @@ pub record IsAtPlaces (image cycles : List ℕ) (first : Machine) (rest : List M
   pub first_frames : frames_at image first rest 0 ≡ root_frame first ∷ []
   pub machines : (i : ℕ) → i ≤ length rest → slice_get (first ∷ rest) i ≡ Some (machine_at image first rest i)
   pub steps : (i : ℕ) → i < length rest → StepsTo image cycles (machine_at image first rest i) (machine_at image first rest (suc i))
-  pub next : (i : ℕ) → i < length rest → config_at image first rest (suc i) ≡ config_after image (config_at image first rest i) (machine_at image first rest (suc i))
+  pub next : (i : ℕ) → i < length rest
+      → config_at image first rest (suc i) ≡ config_after image (config_at image first rest i) (machine_at image first rest (suc i))
   pub due : (i : ℕ) → i < length rest → due_at image first rest (suc i) ≡ transfer_of image (machine_at image first rest i)
-  pub frames : (i : ℕ) → i < length rest → frames_at image first rest (suc i) ≡ frames_after (due_at image first rest i) (machine_at image first rest (suc i)) (frames_at image first rest i)
+  pub frames : (i : ℕ) → i < length rest
+      → frames_at image first rest (suc i) ≡ frames_after (due_at image first rest i) (machine_at image first rest (suc i)) (frames_at image first rest i)
 
 -- so it is of each run
 abbrev pub RunsAreAtPlaces : Type 0

@@ -29,7 +29,8 @@ pub record GoesOnBehind (image : List ℕ) (F : Frame) (c : Config) (next : Mach
 
 abbrev pub PopsBehindCallsGoOn : Type 0
 PopsBehindCallsGoOn =
-    (image cycles : List ℕ) (invalid : ℕ) (c : Config) (next : Machine) (F : Frame) → IsRunning image invalid c → c.due ≡ Returns → StepsTo image cycles c.machine next
+    (image cycles : List ℕ) (invalid : ℕ) (c : Config) (next : Machine) (F : Frame) → IsRunning image invalid c → c.due ≡ Returns
+    → StepsTo image cycles c.machine next
     → F.caller < 2 ^ 32 → passes is_call (code_instruction image F.caller) ≡ true → next.pc ≡ (F.caller + 8) % 2 ^ 32 → GoesOnBehind image F c next
 
 -- where windows are high, a stub leaves r16 to r31 of the window of each frame below it

@@ -59,4 +59,5 @@ pub record DepthsAreWindows : Type 0 where
   pub below : (start cwp depth : ℕ) → start < 8 → cwp < 8 → depth < 8 → cwp ≡ (start + 7 * depth) % 8 → depth_from start cwp ≡ depth
   pub is : (start cwp : ℕ) → start < 8 → cwp < 8 → cwp ≡ (start + 7 * depth_from start cwp) % 8
   -- at depth 0 or 1 the level is so much less
-  pub level : (invalid start cwp : ℕ) → invalid < 8 → IsInUse invalid start → IsInUse invalid cwp → depth_from start cwp < 2 → level_above invalid start ≡ level_above invalid cwp + depth_from start cwp
+  pub level : (invalid start cwp : ℕ) → invalid < 8 → IsInUse invalid start → IsInUse invalid cwp → depth_from start cwp < 2
+      → level_above invalid start ≡ level_above invalid cwp + depth_from start cwp
