@@ -17,7 +17,7 @@ use Rattle.sparc_decode.specs.declared.instruction.Instr.{Instr}
 use Rattle.sparc_decode.specs.declared.instruction.Instr.TheVariants.{Sethi, Alu, Jmpl}
 use Rattle.sparc_decode.specs.declared.instruction.Second.TheVariants.{Imm}
 use Rattle.sparc_machine.specs.Effect.{Done, Trapped, in_order, is_in_order, jumped, step_cost, paid, performed, stepped_from, code_word}
-use Rattle.sparc_machine.specs.Frame.{Transfer, Stays, Returns, Frame, StepsTo, RunsFrom, transfer_from, transfer_of, instruction_at, frames_from}
+use Rattle.sparc_machine.specs.Frame.{Transfer, Stays, Returns, Frame, StepsTo, RunsFrom, transfer_from, transfer_of, instruction_at, config_from}
 use Rattle.sparc_machine.specs.Machine.{with_register, going_to, advanced, charged}
 use Rattle.sparc_machine.specs.Outcome.{Stepped}
 use Rattle.sparc_machine.specs.Register.{physical_of}
@@ -189,6 +189,11 @@ rest_cons entry count most i m run at spent rest = record { ends = omega (arith,
   rest_spends : (k : ℕ) (x : Machine) → slice_get (m ∷ run) k ≡ Some x → x.cycles ≤ most
   rest_spends zero x e = let same : m ≡ x = cc in subst (λ (y : Machine). y.cycles ≤ most) same spent
   rest_spends (suc k) x e = rest.spends k x e
+
+-- the stack at a place of a run that begins with this transfer due and this stack
+abbrev pub frames_from : List ℕ → Transfer → List Frame → List Machine → ℕ → List Frame
+frames_from image due frames [] i = frames
+frames_from image due frames (m ∷ rest) i = (config_from image (record { machine = m; due = due; frames = frames }) rest i).frames
 
 module _ (image costs : List ℕ) (entry count : ℕ) (s : IsStraight image entry count) (start : ℕ) where
   -- a machine at a place of the code
