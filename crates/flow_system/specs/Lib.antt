@@ -1,3 +1,4 @@
+pub mod Due
 pub mod Facts
 pub mod Laws
 pub mod Rules
