@@ -1,5 +1,5 @@
 ghost use Rattle.std.specs.Prelude.{◌≡◌, ◌+◌, ◌<◌, ◌≤◌, ◌^◌, IfOk, IfErr};
-ghost use Rattle.std.specs.Thread.{IsSync, IsSend};
+ghost use Rattle.std.specs.Thread.{IsSync};
 ghost use Rattle.flow_system.specs.Facts.{fact_at};
 ghost use Rattle.flow_system.specs.State.{IsDueGraph};
 ghost use Rattle.flow_core.specs.Core.{IsGood, counted_keys};
@@ -73,6 +73,8 @@ where
         return labour_pooled(rt, alloc, pool, system, first, gate);
     }
     let half = count / 2;
+    let rest = count - half;
+    let next = first + half;
     let (low, high) = join(
         rt,
         || -> Result<(), GrowRefusal>
@@ -80,9 +82,9 @@ where
             ensures { IfErr result (IsTooBig S.Key.cmp N.rules N.limit) }
         { labour_all(rt, alloc, pool, system, first, half, gate) },
         || -> Result<(), GrowRefusal>
-            requires { IsSync R.row × (S.rules system.now ≡ N.rules) × (first + count < 2 ^ 32) }
+            requires { IsSync R.row × (S.rules system.now ≡ N.rules) × (next + rest < 2 ^ 32) }
             ensures { IfErr result (IsTooBig S.Key.cmp N.rules N.limit) }
-        { labour_all(rt, alloc, pool, system, first + half, count - half, gate) },
+        { labour_all(rt, alloc, pool, system, next, rest, gate) },
     );
     low?;
     high
