@@ -1,0 +1,5 @@
+pub mod Found
+pub mod Lists
+pub mod Marks
+pub mod Parts
+pub mod Turned

@@ -1,0 +1,7 @@
+//! The nest of a graph: its loops, each with one head, or the two least entries of the first part that has two.
+#![tactic(auto)]
+
+mod marking;
+mod parting;
+mod searching;
+mod turning;
