@@ -1,6 +1,8 @@
 //! The nest of a graph: its loops, each with one head, or the two least entries of the first part that has two.
 #![tactic(auto)]
 
+mod entering;
+mod finding;
 mod marking;
 mod parting;
 mod searching;
