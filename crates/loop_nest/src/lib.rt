@@ -3,7 +3,10 @@
 
 mod entering;
 mod finding;
+mod keeping;
 mod marking;
+mod ordering;
 mod parting;
 mod searching;
+mod splitting;
 mod turning;
