@@ -20,6 +20,7 @@ use sparc_text::listing;
 use std::alloc::Global;
 
 /// The command `bound`: reads the image, the table and the assertions, makes the report and writes it.
+#[tactic(auto, using(crate::proofs::Asks::read_image, crate::proofs::Asks::read_cycles, crate::proofs::Asks::read_assertions))]
 fn bound<F: Shelf, K: Sink>(
     alloc: Global,
     image: &str,
