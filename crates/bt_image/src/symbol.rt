@@ -13,7 +13,8 @@ pub struct Symbol {
     pub value: u32,
     /// Its type in the low four bits, its binding in the high four.
     pub info: u8,
-    /// The number of the section that it is of, 0 where it is of none.
+    /// The number of the section that it is of. It is of none where that is 0 (SHN_UNDEF) or reserved, as fff1
+    /// (SHN_ABS) and fff2 (SHN_COMMON) are.
     pub section: u16,
 }
 
