@@ -1,3 +1,3 @@
-pub mod Asks
+pub mod Ascii
 pub mod Exact
 pub mod Wholes

@@ -1,5 +1,4 @@
 pub mod Answer
-pub mod Asks
 pub mod Bound
 pub mod Call
 pub mod Decode
