@@ -73,7 +73,8 @@ holder_part access image a n k number none lt test h klt =
     first_of-only (λ i. holding (test_of access) (a + k) 1 (section_at image i)) (section_count image) number (section_at image number) lt at
     (λ i ilt. ⊎_elim
     (λ out. inl out)
-    (λ p. let same = one_section image (a + k) i number none ilt lt (asks_loaded access (section_at image i) p.0) (asks_loaded access (section_at image number) test) p.1 here in
+    (λ p. let same = one_section image (a + k) i number none ilt lt (asks_loaded access (section_at image i) p.0)
+    (asks_loaded access (section_at image number) test) p.1 here in
     inr (p.2 ∙ ap (λ m. Some (section_at image m)) same))
     (holding_cases (test_of access) (a + k) 1 (section_at image i)))
 
@@ -135,8 +136,10 @@ bytes_stand access image a n bytes ok is = by (holder (test_of access) image a n
     by None e = absurd (let none = sym (ap (option_map (λ (s : Section). take n (drop (place_in s a) image))) e) ∙ is in cc)
     by (Some s) e =
         let found = found_at (test_of access) image a n s e in
-        let some : Some (take n (drop (place_in s a) image)) ≡ Some bytes = sym (ap (option_map (λ (s : Section). take n (drop (place_in s a) image))) e) ∙ is in
-        let same : take n (drop (place_in (section_at image found.number) a) image) ≡ bytes = ap (λ (s : Section). take n (drop (place_in s a) image)) found.is ∙ (let e : take n (drop (place_in s a) image) ≡ bytes = cc in e) in
+        let some : Some (take n (drop (place_in s a) image)) ≡ Some bytes = sym (ap (option_map (λ (s : Section). take n (drop (place_in s a) image))) e)
+        ∙ is in
+        let same : take n (drop (place_in (section_at image found.number) a) image) ≡ bytes = ap (λ (s : Section). take n (drop (place_in s a) image))
+        found.is ∙ (let e : take n (drop (place_in s a) image) ≡ bytes = cc in e) in
         subst (AreBytesAt (test_of access) image a n) same (bytes_of_number access image a n found.number ok found.below found.passes found.here)
 
 -- a word that can be read is the number of the bytes that stand there
