@@ -13,7 +13,7 @@ use Rattle.sparc_decode.specs.declared.instruction.Second.{Second}
 use Rattle.sparc_decode.specs.declared.instruction.Second.TheVariants.{Reg, Imm}
 use Rattle.sparc_decode.specs.declared.instruction.StoreKind.{StoreKind}
 use Rattle.sparc_decode.specs.declared.instruction.StoreKind.TheVariants.{St, Stb, Sth, Std}
-use Rattle.sparc_machine.specs.Effect.{Effect, goes_on, with_flags, flags_from, tagged_result, shift_result, freely_flagged, product_of, is_in_order, in_order, address_in, operated, branched, jumped, is_invalid, turned, read_into, load_effect, is_odd_double_load, write_trap, store_effect, is_odd_double_store, atomic_effect, float_effect, unless_trapped, effect_of}
+use Rattle.sparc_machine.specs.Effect.{Effect, goes_on, with_flags, flags_from, tagged_result, shift_result, freely_flagged, is_in_order, in_order, address_in, operated, branched, jumped, is_invalid, turned, read_into, load_effect, is_odd_double_load, write_trap, store_effect, is_odd_double_store, atomic_effect, float_effect, unless_trapped, effect_of}
 use Rattle.sparc_machine.specs.Machine.{register_of, with_register, operand_of, going_to, advanced}
 use Rattle.sparc_machine.specs.Memory.{load_size, store_size, atomic_size, is_float_store, float_size}
 use Rattle.sparc_machine.specs.Reads.{with_place, IsElsewhere, AreElsewhere, AgreesBut, EffectsAgreeBut, trapped, done, DependsOnReadsAlone}
@@ -22,6 +22,7 @@ use Rattle.sparc_machine.specs.declared.free.Free.{Free}
 use Rattle.sparc_machine.specs.declared.machine.Machine.{Machine}
 use Rattle.sparc_machine.specs.declared.trap.Trap.{Trap}
 use Rattle.sparc_machine.specs.declared.trap.Trap.TheVariants.{Misaligned, Unmodelled, Overflow, Underflow}
+use Rattle.word_ops.specs.Word.{product_of}
 
 module _ (p v : ℕ) where
   -- the same content of a register that stands elsewhere
