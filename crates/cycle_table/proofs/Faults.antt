@@ -57,30 +57,36 @@ module _ (version : Version) where
   after_next : (earlier : List Row) (row : Row) (rest : List Row) (k : ℕ) → after earlier (row ∷ rest) (suc k) ≡ after (earlier ++ row ∷ []) rest k
   after_next earlier row rest k = ap (λ (rows : List Row). fault_from version rows (slice_get rest k)) (sym (append_assoc earlier (row ∷ []) (take k rest)))
 
-  firsts_here : (earlier : List Row) (row : Row) (rest : List Row) (fault : CycleRefusal) → fault_of version earlier row ≡ Some fault → Firsts earlier (row ∷ rest) (Some fault)
+  firsts_here : (earlier : List Row) (row : Row) (rest : List Row) (fault : CycleRefusal) → fault_of version earlier row ≡ Some fault
+      → Firsts earlier (row ∷ rest) (Some fault)
   firsts_here earlier row rest fault bad = record { place = 0; bad = after_head earlier row rest ∙ bad; fine = λ k before. absurd (omega arith) }
 
-  firsts_later : (earlier : List Row) (row : Row) (rest : List Row) (found : Option CycleRefusal) → fault_of version earlier row ≡ None → Firsts (earlier ++ row ∷ []) rest found → Firsts earlier (row ∷ rest) found
+  firsts_later : (earlier : List Row) (row : Row) (rest : List Row) (found : Option CycleRefusal) → fault_of version earlier row ≡ None
+      → Firsts (earlier ++ row ∷ []) rest found → Firsts earlier (row ∷ rest) found
   firsts_later earlier row rest None fine none = at where
     at : (k : ℕ) → after earlier (row ∷ rest) k ≡ None
     at zero = after_head earlier row rest ∙ fine
     at (suc k) = after_next earlier row rest k ∙ none k
-  firsts_later earlier row rest (Some fault) fine first = record { place = suc first.place; bad = after_next earlier row rest first.place ∙ first.bad; fine = at } where
-    at : (k : ℕ) → k < suc first.place → after earlier (row ∷ rest) k ≡ None
-    at zero before = after_head earlier row rest ∙ fine
-    at (suc k) before = after_next earlier row rest k ∙ first.fine k (omega arith)
+  firsts_later earlier row rest (Some fault) fine first =
+      record { place = suc first.place; bad = after_next earlier row rest first.place ∙ first.bad; fine = at } where
+        at : (k : ℕ) → k < suc first.place → after earlier (row ∷ rest) k ≡ None
+        at zero before = after_head earlier row rest ∙ fine
+        at (suc k) before = after_next earlier row rest k ∙ first.fine k (omega arith)
 
   firsts : (earlier rest : List Row) → Firsts earlier rest (first_fault version earlier rest)
   firsts earlier [] = λ k. refl
   firsts earlier (row ∷ rest) = cases (fault_of version earlier row) refl (firsts (earlier ++ row ∷ []) rest) where
-    cases : (found : Option CycleRefusal) → fault_of version earlier row ≡ found → Firsts (earlier ++ row ∷ []) rest (first_fault version (earlier ++ row ∷ []) rest)
+    cases : (found : Option CycleRefusal) → fault_of version earlier row ≡ found
+        → Firsts (earlier ++ row ∷ []) rest (first_fault version (earlier ++ row ∷ []) rest)
         → Firsts earlier (row ∷ rest) (first_of found (first_fault version (earlier ++ row ∷ []) rest))
     cases None fine later = firsts_later earlier row rest (first_fault version (earlier ++ row ∷ []) rest) fine later
     cases (Some fault) bad later = firsts_here earlier row rest fault bad
 
-  pub faults_first : (body : List Row) → MatchOption (first_fault version [] body) ((k : ℕ) → fault_at version body k ≡ None) (λ fault. IsFirstFault version body fault)
+  pub faults_first : (body : List Row)
+      → MatchOption (first_fault version [] body) ((k : ℕ) → fault_at version body k ≡ None) (λ fault. IsFirstFault version body fault)
   faults_first body = of (first_fault version [] body) (firsts [] body) where
-    of : (found : Option CycleRefusal) → Firsts [] body found → MatchOption found ((k : ℕ) → fault_at version body k ≡ None) (λ fault. IsFirstFault version body fault)
+    of : (found : Option CycleRefusal) → Firsts [] body found
+        → MatchOption found ((k : ℕ) → fault_at version body k ≡ None) (λ fault. IsFirstFault version body fault)
     of None none = none
     of (Some fault) first = record { place = first.place; bad = first.bad; fine = first.fine }
 
@@ -111,13 +117,16 @@ module _ (version : Version) where
   ok_of class cost = Ok (class, cost)
 
   -- where a line without a fault gives a place a cost, no earlier one does
-  unseen : (earlier : List Row) (row : Row) (class : CostClass) (cost : ℕ) → place_of class < count_of version → fault_of version earlier row ≡ None → says version row.words ≡ Ok (class, cost) → (cost ≢ 0) × (cost_in version earlier (place_of class) ≡ 0)
+  unseen : (earlier : List Row) (row : Row) (class : CostClass) (cost : ℕ) → place_of class < count_of version → fault_of version earlier row ≡ None
+      → says version row.words ≡ Ok (class, cost) → (cost ≢ 0) × (cost_in version earlier (place_of class) ≡ 0)
   unseen earlier row class cost within fine said =
-      let new = new_cost (costs_of version earlier) row.number class cost (ap (λ (s : Result (CostClass × ℕ) Why). fault_of_said earlier row.number s) (sym said) ∙ fine) in
+      let new = new_cost (costs_of version earlier) row.number class cost
+      (ap (λ (s : Result (CostClass × ℕ) Why). fault_of_said earlier row.number s) (sym said) ∙ fine) in
       (new.some, sym (costs_of_at version earlier (place_of class) (inside_all version (place_of class) within)) ∙ new.none)
 
   -- a line in front
-  cost_in_head : (row : Row) (rest : List Row) (place : ℕ) → cost_in version (row ∷ rest) place ≡ cost_for (says version row.words) place + cost_in version rest place
+  cost_in_head : (row : Row) (rest : List Row) (place : ℕ)
+      → cost_in version (row ∷ rest) place ≡ cost_for (says version row.words) place + cost_in version rest place
   cost_in_head row rest place = sum_by-append (λ (r : Row). cost_for (says version r.words) place) (row ∷ []) rest ∙ (omega arith)
 
   -- lines give nothing to a class that the version hasn't
@@ -143,7 +152,8 @@ module _ (version : Version) where
   ]
 
   -- what earlier lines give isn't given again
-  not_again : (earlier rest : List Row) (place : ℕ) → place < count_of version → first_fault version earlier rest ≡ None → cost_in version earlier place ≢ 0 → cost_in version rest place ≡ 0
+  not_again : (earlier rest : List Row) (place : ℕ) → place < count_of version → first_fault version earlier rest ≡ None
+      → cost_in version earlier place ≢ 0 → cost_in version rest place ≡ 0
   not_again earlier [] place within fine some = refl
   not_again earlier (row ∷ rest) place within fine some =
       let parts = no_fault (fault_of version earlier row) (first_fault version (earlier ++ row ∷ []) rest) fine in
@@ -168,7 +178,8 @@ module _ (version : Version) where
     pub given : says version row.words ≡ Ok (class, total)
     pub at : place_of class ≡ place
 
-  given_once : (earlier rest : List Row) (place : ℕ) → place < count_of version → first_fault version earlier rest ≡ None → cost_in version earlier place ≡ 0 → cost_in version rest place ≢ 0 → GivesAt rest place (cost_in version rest place)
+  given_once : (earlier rest : List Row) (place : ℕ) → place < count_of version → first_fault version earlier rest ≡ None
+      → cost_in version earlier place ≡ 0 → cost_in version rest place ≢ 0 → GivesAt rest place (cost_in version rest place)
   given_once earlier [] place within fine none some = absurd (some refl)
   given_once earlier (row ∷ rest) place within fine none some =
       let parts = no_fault (fault_of version earlier row) (first_fault version (earlier ++ row ∷ []) rest) fine in
@@ -178,7 +189,14 @@ module _ (version : Version) where
         | inl nothing ↦
             let same : cost_in version rest place ≡ cost_in version (row ∷ rest) place = omega arith in
             let later = given_once (earlier ++ row ∷ []) rest place within parts.1 (omega arith) (λ z. some (sym same ∙ z)) in
-            record { line = suc later.line; row = later.row; stands = later.stands; class = later.class; given = later.given ∙ ap (λ (n : ℕ). ok_of later.class n) same; at = later.at }
+            record {
+              line = suc later.line;
+              row = later.row;
+              stands = later.stands;
+              class = later.class;
+              given = later.given ∙ ap (λ (n : ℕ). ok_of later.class n) same;
+              at = later.at;
+            }
         | inr gives ↦
             let g = giver (says version row.words) place gives in
             let after_all : cost_in version rest place ≡ 0 = not_again (earlier ++ row ∷ []) rest place within parts.1 (λ z. gives (omega arith)) in
@@ -191,7 +209,8 @@ module _ (version : Version) where
   unfolding first_free
   none_free costs class none within =
       let fails : eqb (cost_at costs (get_or (classes_of version) (place_of class) Unmodelled)) 0 ≡ false =
-      none_found (λ c. eqb (cost_at costs c) 0) (classes_of version) (place_of class) Unmodelled none (subst (λ (n : ℕ). place_of class < n) (sym (as_many version)) within) in
+      none_found (λ c. eqb (cost_at costs c) 0) (classes_of version) (place_of class) Unmodelled none
+      (subst (λ (n : ℕ). place_of class < n) (sym (as_many version)) within) in
       eqb-false (cost_at costs class) 0 (subst (λ (c : CostClass). eqb (cost_at costs c) 0 ≡ false) (stands_in version class within) fails)
 
   -- where no class is missing, each costs at least 1
@@ -213,11 +232,13 @@ module _ (version : Version) where
     by Two each other = rw (ne_eqb (cost_at costs Loaduse) 0 (each Loaduse (omega arith))) refl
 
   -- what a line gives is part of what all give
-  part_of : (rows : List Row) (k : ℕ) (row : Row) (place : ℕ) → slice_get rows k ≡ Some row → cost_for (says version row.words) place ≤ cost_in version rows place
+  part_of : (rows : List Row) (k : ℕ) (row : Row) (place : ℕ) → slice_get rows k ≡ Some row
+      → cost_for (says version row.words) place ≤ cost_in version rows place
   part_of [] k row place stands = cc
   part_of (first ∷ rows) zero row place stands =
       let same : first ≡ row = cc in
-      let is : cost_for (says version first.words) place ≡ cost_for (says version row.words) place = ap (λ (r : Row). cost_for (says version r.words) place) same in
+      let is : cost_for (says version first.words) place ≡ cost_for (says version row.words) place =
+      ap (λ (r : Row). cost_for (says version r.words) place) same in
       let head = cost_in_head first rows place in
       omega arith
   part_of (first ∷ rows) (suc k) row place stands =
@@ -226,14 +247,19 @@ module _ (version : Version) where
       omega arith
 
   -- of two lines of a class the later is refused
-  twice : (body : List Row) (class : CostClass) (cost other : ℕ) → ((k : ℕ) → fault_at version body k ≡ None) → place_of class < count_of version → (one : GivesCost version body class cost) (two : GivesCost version body class other) → one.place < two.place → ⊥
+  twice : (body : List Row) (class : CostClass) (cost other : ℕ) → ((k : ℕ) → fault_at version body k ≡ None) → place_of class < count_of version
+      → (one : GivesCost version body class cost) (two : GivesCost version body class other) → one.place < two.place → ⊥
   twice body class cost other fine within one two before =
-      let first : fault_of version (take one.place body) one.row ≡ None = subst (λ (r : Option Row). fault_from version (take one.place body) r ≡ None) one.stands (fine one.place) in
-      let second : fault_of version (take two.place body) two.row ≡ None = subst (λ (r : Option Row). fault_from version (take two.place body) r ≡ None) two.stands (fine two.place) in
+      let first : fault_of version (take one.place body) one.row ≡ None =
+      subst (λ (r : Option Row). fault_from version (take one.place body) r ≡ None) one.stands (fine one.place) in
+      let second : fault_of version (take two.place body) two.row ≡ None =
+      subst (λ (r : Option Row). fault_from version (take two.place body) r ≡ None) two.stands (fine two.place) in
       let some = unseen (take one.place body) one.row class cost within first one.given in
       let none = unseen (take two.place body) two.row class other within second two.given in
-      let part : cost_for (says version one.row.words) (place_of class) ≤ cost_in version (take two.place body) (place_of class) = part_of (take two.place body) one.place one.row (place_of class) (get_take body one.place two.place before ∙ one.stands) in
-      let is : cost_for (says version one.row.words) (place_of class) ≡ cost = ap (λ (s : Result (CostClass × ℕ) Why). cost_for s (place_of class)) one.given ∙ rw (eq-eqb (place_of class) (place_of class) refl) refl in
+      let part : cost_for (says version one.row.words) (place_of class) ≤ cost_in version (take two.place body) (place_of class) =
+      part_of (take two.place body) one.place one.row (place_of class) (get_take body one.place two.place before ∙ one.stands) in
+      let is : cost_for (says version one.row.words) (place_of class) ≡ cost =
+      ap (λ (s : Result (CostClass × ℕ) Why). cost_for s (place_of class)) one.given ∙ rw (eq-eqb (place_of class) (place_of class) refl) refl in
       some.0 (let z = none.1 in omega arith)
 
   -- what lines are that are a table
@@ -244,7 +270,8 @@ module _ (version : Version) where
 
   is_table : (body : List Row) (costs : List ℕ) → body_of version body ≡ Ok costs → IsTable body costs
   is_table body costs = cases (first_fault version [] body) refl (first_free version (costs_of version body)) refl where
-    cases : (found : Option CycleRefusal) → first_fault version [] body ≡ found → (free : Option CostClass) → first_free version (costs_of version body) ≡ free → unless found (complete free (costs_of version body)) ≡ Ok costs → IsTable body costs
+    cases : (found : Option CycleRefusal) → first_fault version [] body ≡ found → (free : Option CostClass)
+        → first_free version (costs_of version body) ≡ free → unless found (complete free (costs_of version body)) ≡ Ok costs → IsTable body costs
     cases None fine None free is = record { fine = fine; free = free; given = (let e = is in cc) }
     cases None fine (Some class) free is = cc
     cases (Some fault) fine free none is = cc
@@ -255,7 +282,8 @@ module _ (version : Version) where
     table = is_table body costs is
 
     total : (class : CostClass) → place_of class < count_of version → cost_at costs class ≡ cost_in version body (place_of class)
-    total class within = ap (λ (c : List ℕ). cost_at c class) table.given ∙ costs_of_at version body (place_of class) (inside_all version (place_of class) within)
+    total class within =
+        ap (λ (c : List ℕ). cost_at c class) table.given ∙ costs_of_at version body (place_of class) (inside_all version (place_of class) within)
 
     some : (class : CostClass) → place_of class < count_of version → cost_at costs class ≢ 0
     some class within z = none_free (costs_of version body) class table.free within (ap (λ (c : List ℕ). cost_at c class) (sym table.given) ∙ z)
@@ -273,9 +301,12 @@ module _ (version : Version) where
     none : (class : CostClass) → count_of version ≤ place_of class → cost_at costs class ≡ 0
     none class beyond = ap (λ (c : List ℕ). cost_at c class) table.given ∙ none_beyond body class beyond
 
-    once : (class : CostClass) (cost other : ℕ) → place_of class < count_of version → (one : GivesCost version body class cost) (two : GivesCost version body class other) → one.place ≡ two.place
+    once : (class : CostClass) (cost other : ℕ) → place_of class < count_of version
+        → (one : GivesCost version body class cost) (two : GivesCost version body class other) → one.place ≡ two.place
     once class cost other within one two =
-        let fine : (k : ℕ) → fault_at version body k ≡ None = subst (λ (f : Option CycleRefusal). MatchOption f ((k : ℕ) → fault_at version body k ≡ None) (λ fault. IsFirstFault version body fault)) table.fine (faults_first body) in
+        let fine : (k : ℕ) → fault_at version body k ≡ None =
+        subst (λ (f : Option CycleRefusal). MatchOption f ((k : ℕ) → fault_at version body k ≡ None) (λ fault. IsFirstFault version body fault)) table.fine
+        (faults_first body) in
         elim (cases_order one.place two.place) [
           | inl same ↦ same
           | inr (inl before) ↦ absurd (twice body class cost other fine within one two before)

@@ -47,11 +47,13 @@ module _ (version : Version) where
   costs_of_at rows k within = get_or-map-range_with_len (cost_in version rows) 0 30 k k 0 within (omega arith)
 
   -- a line more
-  pub cost_in_more : (earlier : List Row) (row : Row) (k : ℕ) → cost_in version (earlier ++ row ∷ []) k ≡ cost_in version earlier k + cost_for (says version row.words) k
+  pub cost_in_more : (earlier : List Row) (row : Row) (k : ℕ)
+      → cost_in version (earlier ++ row ∷ []) k ≡ cost_in version earlier k + cost_for (says version row.words) k
   cost_in_more earlier row k = sum_by-append (λ (r : Row). cost_for (says version r.words) k) earlier (row ∷ []) ∙ (omega arith)
 
   -- the costs with one more put down
-  put_down : (earlier : List Row) (row : Row) (class : CostClass) (cost : ℕ) → says version row.words ≡ Ok (class, cost) → cost_at (costs_of version earlier) class ≡ 0
+  put_down : (earlier : List Row) (row : Row) (class : CostClass) (cost : ℕ) → says version row.words ≡ Ok (class, cost)
+      → cost_at (costs_of version earlier) class ≡ 0
       → slice_set (costs_of version earlier) (place_of class) cost ≡ costs_of version (earlier ++ row ∷ [])
   put_down earlier row class cost said none =
       ext_get_or 0 (slice_set (costs_of version earlier) (place_of class) cost) (costs_of version (earlier ++ row ∷ []))
@@ -62,17 +64,22 @@ module _ (version : Version) where
         more : (k : ℕ) → k < 30 → get_or (costs_of version (earlier ++ row ∷ [])) k 0 ≡ get_or (costs_of version earlier) k 0 + cost_for (Ok (class, cost)) k
         more k h = costs_of_at (earlier ++ row ∷ []) k h ∙ cost_in_more earlier row k ∙ (λ i. sym (costs_of_at earlier k h) i + cost_for (said i) k)
 
-        at : (k : ℕ) → k < length (slice_set (costs_of version earlier) (place_of class) cost) → get_or (slice_set (costs_of version earlier) (place_of class) cost) k 0 ≡ get_or (costs_of version (earlier ++ row ∷ [])) k 0
+        at : (k : ℕ) → k < length (slice_set (costs_of version earlier) (place_of class) cost)
+            → get_or (slice_set (costs_of version earlier) (place_of class) cost) k 0 ≡ get_or (costs_of version (earlier ++ row ∷ [])) k 0
         at k h = elim (cases_eq (place_of class) k) [
           | inl same ↦
-              let inside : place_of class < length (costs_of version earlier) = subst (λ (n : ℕ). place_of class < n) (sym (length-costs_of earlier)) (subst (λ (n : ℕ). n < 30) (sym same) (within k h)) in
-              let put : get_or (slice_set (costs_of version earlier) (place_of class) cost) k 0 ≡ cost = ap (λ (n : ℕ). get_or (slice_set (costs_of version earlier) (place_of class) cost) n 0) (sym same) ∙ get_or-set_same (costs_of version earlier) (place_of class) cost 0 inside in
+              let inside : place_of class < length (costs_of version earlier) =
+              subst (λ (n : ℕ). place_of class < n) (sym (length-costs_of earlier)) (subst (λ (n : ℕ). n < 30) (sym same) (within k h)) in
+              let put : get_or (slice_set (costs_of version earlier) (place_of class) cost) k 0 ≡ cost =
+              ap (λ (n : ℕ). get_or (slice_set (costs_of version earlier) (place_of class) cost) n 0) (sym same)
+              ∙ get_or-set_same (costs_of version earlier) (place_of class) cost 0 inside in
               let was : get_or (costs_of version earlier) k 0 ≡ 0 = ap (λ (n : ℕ). get_or (costs_of version earlier) n 0) (sym same) ∙ none in
               let given : cost_for (Ok (class, cost)) k ≡ cost = rw (eq-eqb (place_of class) k same) refl in
               let all = more k (within k h) in
               omega arith
           | inr other ↦
-              let kept : get_or (slice_set (costs_of version earlier) (place_of class) cost) k 0 ≡ get_or (costs_of version earlier) k 0 = get_or-set_other (costs_of version earlier) (place_of class) k cost 0 (λ e. other (sym e)) in
+              let kept : get_or (slice_set (costs_of version earlier) (place_of class) cost) k 0 ≡ get_or (costs_of version earlier) k 0 =
+              get_or-set_other (costs_of version earlier) (place_of class) k cost 0 (λ e. other (sym e)) in
               let given : cost_for (Ok (class, cost)) k ≡ 0 = rw (ne_eqb (place_of class) k other) refl in
               let all = more k (within k h) in
               omega arith
@@ -91,7 +98,8 @@ module _ (version : Version) where
   read_none body = record { earlier = []; whole = refl; fault = refl; given = refl }
 
   -- a line more is read
-  pub read_more : (body rest : List Row) (row : Row) (costs : List ℕ) (class : CostClass) (cost : ℕ) → IsRead body (row ∷ rest) costs → says version row.words ≡ Ok (class, cost)
+  pub read_more : (body rest : List Row) (row : Row) (costs : List ℕ) (class : CostClass) (cost : ℕ) → IsRead body (row ∷ rest) costs
+      → says version row.words ≡ Ok (class, cost)
       → fault_said costs row.number (Ok (class, cost)) ≡ None → IsRead body rest (slice_set costs (place_of class) cost)
   read_more body rest row costs class cost read said fine =
       let new = new_cost costs row.number class cost fine in
@@ -105,14 +113,17 @@ module _ (version : Version) where
       }
 
   -- the first bad line is come to
-  pub read_bad : (body rest : List Row) (row : Row) (costs : List ℕ) (e : CycleRefusal) → IsRead body (row ∷ rest) costs → fault_said costs row.number (says version row.words) ≡ Some e → body_of version body ≡ Err e
+  pub read_bad : (body rest : List Row) (row : Row) (costs : List ℕ) (e : CycleRefusal) → IsRead body (row ∷ rest) costs
+      → fault_said costs row.number (says version row.words) ≡ Some e → body_of version body ≡ Err e
   read_bad body rest row costs e read bad =
       let fault : first_fault version [] body ≡ Some e =
-      read.fault ∙ ap (λ (f : Option CycleRefusal). first_of f (first_fault version (read.earlier ++ row ∷ []) rest)) (ap (λ (c : List ℕ). fault_said c row.number (says version row.words)) (sym read.given) ∙ bad) in
+      read.fault ∙ ap (λ (f : Option CycleRefusal). first_of f (first_fault version (read.earlier ++ row ∷ []) rest))
+      (ap (λ (c : List ℕ). fault_said c row.number (says version row.words)) (sym read.given) ∙ bad) in
       ap (λ (f : Option CycleRefusal). unless f (completed version (costs_of version body))) fault
 
   -- all lines are read
   pub read_all : (body : List Row) (costs : List ℕ) → IsRead body [] costs → body_of version body ≡ completed version costs
   read_all body costs read =
       let same : body ≡ read.earlier = read.whole ∙ append-nil read.earlier in
-      ap (λ (f : Option CycleRefusal). unless f (completed version (costs_of version body))) read.fault ∙ ap (completed version) (ap (costs_of version) same ∙ sym read.given)
+      ap (λ (f : Option CycleRefusal). unless f (completed version (costs_of version body))) read.fault
+      ∙ ap (completed version) (ap (costs_of version) same ∙ sym read.given)

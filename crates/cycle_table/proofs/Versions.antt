@@ -71,7 +71,8 @@ all_pass q (x ∷ xs) = q x && all_pass q xs
 found_passes : (q p : CostClass → Bool) (xs : List CostClass) (x : CostClass) → all_pass q xs ≡ true → find p xs ≡ Some x → q x ≡ true
 found_passes q p [] x all found = cc
 found_passes q p (first ∷ xs) x all found = elim (cases_Bool (p first)) [
-  | inl passes ↦ (let same : first ≡ x = (let e = rw passes at found in cc) in subst (λ (c : CostClass). q c ≡ true) same (and_parts (q first) (all_pass q xs) all).0)
+  | inl passes ↦
+      (let same : first ≡ x = (let e = rw passes at found in cc) in subst (λ (c : CostClass). q c ≡ true) same (and_parts (q first) (all_pass q xs) all).0)
   | inr fails ↦ found_passes q p xs x (and_parts (q first) (all_pass q xs) all).1 (rw fails at found)
 ]
 
@@ -96,7 +97,8 @@ of_this class other cost (word ∷ more) said = go (number_up_to greatest_cost w
   go (Some n) (extra ∷ rest) e = cc
 
 -- a line says the cost of a class of its version
-pub says_within : (version : Version) (words : List (List ℕ)) (class : CostClass) (cost : ℕ) → says version words ≡ Ok (class, cost) → place_of class < count_of version
+pub says_within : (version : Version) (words : List (List ℕ)) (class : CostClass) (cost : ℕ) → says version words ≡ Ok (class, cost)
+    → place_of class < count_of version
 says_within version [] class cost said = cc
 says_within version (name ∷ more) class cost said = go (class_named version name) refl said where
   go : (named : Option CostClass) → class_named version name ≡ named → names_as named more ≡ Ok (class, cost) → place_of class < count_of version

@@ -8,7 +8,11 @@ use Rattle.sparc_decode.specs.declared.cost_class.CostClass.TheVariants.{Alu, Sh
 
 -- the classes in the order of a table
 abbrev pub classes : List CostClass
-classes = Alu ∷ Shift ∷ Sethi ∷ Tagged ∷ Mulscc ∷ Save ∷ Restore ∷ Branch ∷ Floatbranch ∷ Call ∷ Jump ∷ Load ∷ Loaddouble ∷ Store ∷ Storedouble ∷ Atomic ∷ Ready ∷ Writey ∷ Flush ∷ Floatop ∷ Floatcmp ∷ Floatload ∷ Floatloaddouble ∷ Floatstore ∷ Floatstoredouble ∷ Trap ∷ Annulled ∷ Loaduse ∷ Multiply ∷ Divide ∷ []
+classes =
+    Alu ∷ Shift ∷ Sethi ∷ Tagged ∷ Mulscc ∷ Save ∷ Restore ∷ Branch
+    ∷ Floatbranch ∷ Call ∷ Jump ∷ Load ∷ Loaddouble ∷ Store ∷ Storedouble ∷ Atomic
+    ∷ Ready ∷ Writey ∷ Flush ∷ Floatop ∷ Floatcmp
+    ∷ Floatload ∷ Floatloaddouble ∷ Floatstore ∷ Floatstoredouble ∷ Trap ∷ Annulled ∷ Loaduse ∷ Multiply ∷ Divide ∷ []
 
 -- the place of a class in that order; the class that has no cost comes after them
 abbrev pub place_of : CostClass → ℕ

@@ -19,7 +19,11 @@ bounded image costs entry count s first rest begins steps ends =
     let run = from_place image costs entry count s first.cycles 0 first rest (root_frame first) long
     (record { pc = begins.pc ∙ omega arith; spent = omega arith; behind = pair_most costs first.loaded })
     (begins.npc ∙ omega arith) steps (λ i h. ends i (omega arith)) in
-    record { ends = omega (arith, run.ends); places = λ i m w e. (let at : m.pc ≡ entry + 4 * (0 + i) = run.places i m (omega arith) e in omega arith); spends = run.spends }
+    record {
+      ends = omega (arith, run.ends);
+      places = λ i m w e. (let at : m.pc ≡ entry + 4 * (0 + i) = run.places i m (omega arith) e in omega arith);
+      spends = run.spends;
+    }
 
 -- the return doesn't compute alone
 return_is_no_computation : passes only_computes (Some (instruction_of return_word)) ≡ false
@@ -27,7 +31,8 @@ return_is_no_computation = ap (λ x. only_computes x) the_return
 
 no_computation_at : (image : List ℕ) (a : ℕ) → code_word image a ≡ Some return_word → passes only_computes (code_instruction image a) ≡ true → ⊥
 no_computation_at image a word computes =
-    let here : passes only_computes (code_instruction image a) ≡ false = ap (λ w. passes only_computes (option_map instruction_of w)) word ∙ return_is_no_computation in
+    let here : passes only_computes (code_instruction image a) ≡ false =
+    ap (λ w. passes only_computes (option_map instruction_of w)) word ∙ return_is_no_computation in
     cc
 
 -- straight code isn't shorter than straight code
@@ -63,20 +68,23 @@ passed_next image entry n this before here computes leaves =
       ]
 
 -- what is loaded before the word behind one
-pub loaded_next : (image : List ℕ) (entry n : ℕ) (this : Instr) → code_instruction image (entry + 4 * n) ≡ Some this → mask_of (registers_loaded this) ≡ loaded_before image entry (n + 1)
+pub loaded_next : (image : List ℕ) (entry n : ℕ) (this : Instr) → code_instruction image (entry + 4 * n) ≡ Some this
+    → mask_of (registers_loaded this) ≡ loaded_before image entry (n + 1)
 loaded_next image entry n this here =
     let place : suc n ≡ n + 1 = omega arith in
     sym (ap loads here) ∙ ap (loaded_before image entry) place
 
 -- what one word more costs
-pub cost_next : (image costs : List ℕ) (entry n before : ℕ) (this : Instr) → code_instruction image (entry + 4 * n) ≡ Some this → before ≡ loaded_before image entry n
+pub cost_next : (image costs : List ℕ) (entry n before : ℕ) (this : Instr) → code_instruction image (entry + 4 * n) ≡ Some this
+    → before ≡ loaded_before image entry n
     → code_cost image costs entry (n + 1) ≡ code_cost image costs entry n + step_cost costs before this false
 cost_next image costs entry n before this here is =
     code_cost_next image costs entry n
     ∙ (λ i. code_cost image costs entry n + cost_alone costs (sym is i) (here i))
 
 -- words that pass, and a return with its delay instruction behind them, are straight code
-pub straight_of : (image costs : List ℕ) (entry i spent : ℕ) → i ≤ 131070 → ArePassed image entry i → Leaves image costs entry i spent → IsStraight image entry (i + 2)
+pub straight_of : (image costs : List ℕ) (entry i spent : ℕ) → i ≤ 131070 → ArePassed image entry i → Leaves image costs entry i spent
+    → IsStraight image entry (i + 2)
 straight_of image costs entry i spent few before last =
     record {
       long = omega arith;
@@ -95,8 +103,10 @@ straight_of image costs entry i spent few before last =
       ]
 
 -- and they are all the straight code there is
-pub all_straight : (image costs : List ℕ) (entry i count : ℕ) → i ≤ 131070 → ArePassed image entry i → (i ≡ 131070) ⊎ IsBlocked image entry i → IsStraight image entry count → Leaves image costs entry i
-    (cost_alone costs (loaded_before image entry i) (code_instruction image (entry + 4 * i)) + cost_alone costs (loaded_before image entry (suc i)) (code_instruction image (entry + 4 * (i + 1))))
+pub all_straight : (image costs : List ℕ) (entry i count : ℕ) → i ≤ 131070 → ArePassed image entry i → (i ≡ 131070) ⊎ IsBlocked image entry i
+    → IsStraight image entry count → Leaves image costs entry i
+    (cost_alone costs (loaded_before image entry i) (code_instruction image (entry + 4 * i))
+    + cost_alone costs (loaded_before image entry (suc i)) (code_instruction image (entry + 4 * (i + 1))))
 all_straight image costs entry i count few before stops s =
     let long = s.long in let short = s.few in let within = s.within in
     let same : i + 2 ≡ count = elim (cases_lt (i + 2) count) [
@@ -121,11 +131,15 @@ all_straight image costs entry i count few before stops s =
     }
 
 -- the cost of the words before the return, and of that and its delay instruction
-pub whole_cost : (image costs : List ℕ) (entry i before spent : ℕ) → before ≡ code_cost image costs entry i → Leaves image costs entry i spent → before + spent ≡ code_cost image costs entry (i + 2)
+pub whole_cost : (image costs : List ℕ) (entry i before spent : ℕ) → before ≡ code_cost image costs entry i → Leaves image costs entry i spent
+    → before + spent ≡ code_cost image costs entry (i + 2)
 whole_cost image costs entry i before spent are last =
     let place : i + 1 ≡ suc i = omega arith in
-    let next : code_cost image costs entry (i + 1 + 1) ≡ code_cost image costs entry (i + 1) + cost_alone costs (loaded_before image entry (suc i)) (code_instruction image (entry + 4 * (i + 1))) =
-    code_cost_next image costs entry (i + 1) ∙ ap (λ (these : ℕ). code_cost image costs entry (i + 1) + cost_alone costs these (code_instruction image (entry + 4 * (i + 1)))) (ap (loaded_before image entry) place) in
+    let next : code_cost image costs entry (i + 1 + 1) ≡ code_cost image costs entry (i + 1) + cost_alone costs (loaded_before image entry (suc i))
+    (code_instruction image (entry + 4 * (i + 1))) =
+    code_cost_next image costs entry (i + 1)
+    ∙ ap (λ (these : ℕ). code_cost image costs entry (i + 1) + cost_alone costs these (code_instruction image (entry + 4 * (i + 1))))
+    (ap (loaded_before image entry) place) in
     let first = code_cost_next image costs entry i in
     let same : code_cost image costs entry (i + 1 + 1) ≡ code_cost image costs entry (i + 2) = ap (code_cost image costs entry) (omega arith) in
     let own = last.cost in

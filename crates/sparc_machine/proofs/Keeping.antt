@@ -54,7 +54,16 @@ same_written m r value = elim (eqb r 0) as (λ b. IsSame m (cond b m (record m {
 ]
 
 same_trans : (a b c : Machine) → IsSame a b → IsSame b c → IsSame a c
-same_trans a b c h k = record { size = k.size ∙ h.size; window = k.window ∙ h.window; mask = k.mask ∙ h.mask; pc = k.pc ∙ h.pc; npc = k.npc ∙ h.npc; cycles = k.cycles ∙ h.cycles; loaded = k.loaded ∙ h.loaded }
+same_trans a b c h k =
+    record {
+      size = k.size ∙ h.size;
+      window = k.window ∙ h.window;
+      mask = k.mask ∙ h.mask;
+      pc = k.pc ∙ h.pc;
+      npc = k.npc ∙ h.npc;
+      cycles = k.cycles ∙ h.cycles;
+      loaded = k.loaded ∙ h.loaded;
+    }
 
 same_flags : (m : Machine) (f : Flags) → IsSame m (with_flags m f)
 same_flags m f = record { size = refl; window = refl; mask = refl; pc = refl; npc = refl; cycles = refl; loaded = refl }
@@ -91,20 +100,26 @@ keeps_flagged m f r value w = keeps_on m _ w (same_trans m (with_flags m f) _ (s
 keeps_plain : (m : Machine) → m.cwp < 8 → KeepsAfter m (goes_on m)
 keeps_plain m w = keeps_on m m w (record { size = refl; window = refl; mask = refl; pc = refl; npc = refl; cycles = refl; loaded = refl })
 
-keeps_branched : (m : Machine) (annul always taken : Bool) (target : ℕ) → m.cwp < 8 → (m.pc % 4 ≡ 0 → target % 4 ≡ 0) → KeepsAfter m (branched m annul always taken target)
+keeps_branched : (m : Machine) (annul always taken : Bool) (target : ℕ) → m.cwp < 8 → (m.pc % 4 ≡ 0 → target % 4 ≡ 0)
+    → KeepsAfter m (branched m annul always taken target)
 keeps_branched m annul always true target w t =
     keeps_if m (annul && always) (Done (record m { pc = target; npc = (target + 4) % 2 ^ 32 }) true) (Done (going_to m target) false)
     (record { kept = record { size = refl; window = w; mask = refl; aligned = λ a. (t a.0, (let h = t a.0 in omega arith)) }; cycles = refl; loaded = refl })
     (keeps_going m m target w (record { size = refl; window = refl; mask = refl; pc = refl; npc = refl; cycles = refl; loaded = refl }) (λ p n. t p))
 keeps_branched m annul always false target w t =
     keeps_if m annul (Done (record m { pc = (m.pc + 8) % 2 ^ 32; npc = (m.pc + 12) % 2 ^ 32 }) true) (goes_on m)
-    (record { kept = record { size = refl; window = w; mask = refl; aligned = λ a. ((let h = a.0 in omega arith), (let h = a.0 in omega arith)) }; cycles = refl; loaded = refl })
+    (record {
+      kept = record { size = refl; window = w; mask = refl; aligned = λ a. ((let h = a.0 in omega arith), (let h = a.0 in omega arith)) };
+      cycles = refl;
+      loaded = refl;
+    })
     (keeps_plain m w)
 
 keeps_jumped : (m : Machine) (r target : ℕ) → m.cwp < 8 → KeepsAfter m (jumped m r target)
 keeps_jumped m r target w =
     elim (target_test target) [
-      | inl h ↦ subst (λ (b : Bool). KeepsAfter m (cond b (Done (going_to (with_register m r m.pc) target) false) (Trapped Misaligned))) (sym h.0) (keeps_going m _ target w (same_written m r m.pc) (λ p n. h.1))
+      | inl h ↦ subst (λ (b : Bool). KeepsAfter m (cond b (Done (going_to (with_register m r m.pc) target) false) (Trapped Misaligned))) (sym h.0)
+          (keeps_going m _ target w (same_written m r m.pc) (λ p n. h.1))
       | inr h ↦ subst (λ (b : Bool). KeepsAfter m (cond b (Done (going_to (with_register m r m.pc) target) false) (Trapped Misaligned))) (sym h) tt
     ]
 
@@ -112,7 +127,12 @@ keeps_turned : (m : Machine) (window : ℕ) (trap : Trap) (r value : ℕ) → wi
 keeps_turned m window trap r value w =
     let there : Machine = record m { cwp = window } in
     let h : Keeps there (advanced (with_register there r value)) = keeps_on there _ w (same_written there r value) in
-    let whole : Keeps m (advanced (with_register there r value)) = record { kept = record { size = h.kept.size; window = h.kept.window; mask = h.kept.mask; aligned = h.kept.aligned }; cycles = h.cycles; loaded = h.loaded } in
+    let whole : Keeps m (advanced (with_register there r value)) =
+    record {
+      kept = record { size = h.kept.size; window = h.kept.window; mask = h.kept.mask; aligned = h.kept.aligned };
+      cycles = h.cycles;
+      loaded = h.loaded;
+    } in
     keeps_if m (is_invalid m.wim window) (Trapped trap) (goes_on (with_register there r value)) tt whole
 
 keeps_loaded : (image : List ℕ) (free : Free) (m : Machine) (kind : LoadKind) (r address : ℕ) → m.cwp < 8 → KeepsAfter m (read_into image free m kind r address)
@@ -128,11 +148,13 @@ keeps_in_order m x h = keeps_if m (is_in_order m) x (Trapped Unmodelled) h tt
 
 keeps_branch : (m : Machine) (annul : Bool) (condition : ℕ) (taken : Bool) (disp : ℤ) → m.cwp < 8 → KeepsAfter m (branch_effect m annul condition taken disp)
 keeps_branch m annul condition taken disp w =
-    keeps_in_order m (branched m annul (eqb condition 8) taken (target_of m.pc disp)) (keeps_branched m annul (eqb condition 8) taken (target_of m.pc disp) w (λ p. omega arith))
+    keeps_in_order m (branched m annul (eqb condition 8) taken (target_of m.pc disp))
+    (keeps_branched m annul (eqb condition 8) taken (target_of m.pc disp) w (λ p. omega arith))
 
 keeps_load : (image : List ℕ) (free : Free) (m : Machine) (kind : LoadKind) (r address : ℕ) → m.cwp < 8 → KeepsAfter m (load_effect image free m kind r address)
 keeps_load image free m kind r address w =
-    keeps_if m (is_odd_double_load kind r) (Trapped Unmodelled) (if eqb (address % load_size kind) 0 then read_into image free m kind r address else Trapped Misaligned) tt
+    keeps_if m (is_odd_double_load kind r) (Trapped Unmodelled)
+    (if eqb (address % load_size kind) 0 then read_into image free m kind r address else Trapped Misaligned) tt
     (keeps_if m (eqb (address % load_size kind) 0) (read_into image free m kind r address) (Trapped Misaligned) (keeps_loaded image free m kind r address w) tt)
 
 keeps_store : (image : List ℕ) (m : Machine) (kind : StoreKind) (r address : ℕ) → m.cwp < 8 → KeepsAfter m (store_effect image m kind r address)
@@ -147,7 +169,8 @@ keeps_atomic image free m swap r address w =
 
 keeps_float : (image : List ℕ) (m : Machine) (kind : FloatKind) (address : ℕ) → m.cwp < 8 → KeepsAfter m (float_effect image m kind address)
 keeps_float image m kind address w =
-    keeps_if m (is_float_store kind) (unless_trapped (write_trap image address (float_size kind)) (goes_on m)) (if eqb (address % float_size kind) 0 then goes_on m else Trapped Misaligned)
+    keeps_if m (is_float_store kind) (unless_trapped (write_trap image address (float_size kind)) (goes_on m))
+    (if eqb (address % float_size kind) 0 then goes_on m else Trapped Misaligned)
     (keeps_unless m (write_trap image address (float_size kind)) (goes_on m) (keeps_plain m w))
     (keeps_if m (eqb (address % float_size kind) 0) (goes_on m) (Trapped Misaligned) (keeps_plain m w) tt)
 
@@ -186,26 +209,31 @@ keeps image free m (Divide true rd rs1 second) w = keeps_flagged m _ rd _ w
 keeps image free m (Divide false rd rs1 second) w = keeps_written m rd _ w
 
 -- an instruction leaves the cycles
-pub leaves_cycles : (image : List ℕ) (free : Free) (m next : Machine) (i : Instr) (annulled : Bool) → m.cwp < 8 → effect_of image free m i ≡ Done next annulled → next.cycles ≡ m.cycles
+pub leaves_cycles : (image : List ℕ) (free : Free) (m next : Machine) (i : Instr) (annulled : Bool) → m.cwp < 8
+    → effect_of image free m i ≡ Done next annulled → next.cycles ≡ m.cycles
 leaves_cycles image free m next i annulled w e = (let h : Keeps m next = subst (KeepsAfter m) e (keeps image free m i w) in h).cycles
 
 -- an instruction leaves what the step before loaded
-pub leaves_loaded : (image : List ℕ) (free : Free) (m next : Machine) (i : Instr) (annulled : Bool) → m.cwp < 8 → effect_of image free m i ≡ Done next annulled → next.loaded ≡ m.loaded
+pub leaves_loaded : (image : List ℕ) (free : Free) (m next : Machine) (i : Instr) (annulled : Bool) → m.cwp < 8
+    → effect_of image free m i ≡ Done next annulled → next.loaded ≡ m.loaded
 leaves_loaded image free m next i annulled w e = (let h : Keeps m next = subst (KeepsAfter m) e (keeps image free m i w) in h).loaded
 
 -- a step keeps what its instruction keeps
-paid_keeps : (cycles : List ℕ) (before : ℕ) (m next : Machine) (i : Instr) (effect : Effect) → KeepsAfter m effect → paid cycles before i effect ≡ Stepped next → IsKept m next
+paid_keeps : (cycles : List ℕ) (before : ℕ) (m next : Machine) (i : Instr) (effect : Effect) → KeepsAfter m effect
+    → paid cycles before i effect ≡ Stepped next → IsKept m next
 paid_keeps cycles before m next i (Done after annulled) h e =
     let is : charged after (step_cost cycles before i annulled) (mask_of (registers_loaded i)) ≡ next = cc in
     subst (IsKept m) is (record { size = h.kept.size; window = h.kept.window; mask = h.kept.mask; aligned = h.kept.aligned })
 paid_keeps cycles before m next i (Trapped trap) h e = cc
 
 -- and where it is modelled
-modelled_keeps : (m next : Machine) (is : Bool) (outcome : Outcome) → (outcome ≡ Stepped next → IsKept m next) → modelled is outcome ≡ Stepped next → IsKept m next
+modelled_keeps : (m next : Machine) (is : Bool) (outcome : Outcome) → (outcome ≡ Stepped next → IsKept m next) → modelled is outcome ≡ Stepped next
+    → IsKept m next
 modelled_keeps m next true outcome h e = h e
 modelled_keeps m next false outcome h e = cc
 
-step_keeps : (image cycles : List ℕ) (free : Free) (m next : Machine) (here : Option ℕ) → m.cwp < 8 → stepped_from image cycles free m here ≡ Stepped next → IsKept m next
+step_keeps : (image cycles : List ℕ) (free : Free) (m next : Machine) (here : Option ℕ) → m.cwp < 8
+    → stepped_from image cycles free m here ≡ Stepped next → IsKept m next
 step_keeps image cycles free m next None w e = cc
 step_keeps image cycles free m next (Some these) w e =
     modelled_keeps m next (is_modelled (has_eight cycles) (instruction_of these)) _

@@ -13,7 +13,7 @@ use Rattle.sparc_decode.specs.declared.instruction.Second.{Second}
 use Rattle.sparc_decode.specs.declared.instruction.Second.TheVariants.{Reg, Imm}
 use Rattle.sparc_decode.specs.declared.instruction.StoreKind.{StoreKind}
 use Rattle.sparc_decode.specs.declared.instruction.StoreKind.TheVariants.{St, Stb, Sth, Std}
-use Rattle.sparc_machine.specs.Effect.{Effect, goes_on, with_flags, flags_from, tagged_result, shift_result, freely_flagged, product_of, is_in_order, in_order, address_in, operated, branched, jumped, is_invalid, turned, read_into, load_effect, is_odd_double_load, write_trap, store_effect, is_odd_double_store, atomic_effect, float_effect, unless_trapped, effect_of}
+use Rattle.sparc_machine.specs.Effect.{Effect, goes_on, with_flags, flags_from, tagged_result, shift_result, freely_flagged, is_in_order, in_order, address_in, operated, branched, jumped, is_invalid, turned, read_into, load_effect, is_odd_double_load, write_trap, store_effect, is_odd_double_store, atomic_effect, float_effect, unless_trapped, effect_of}
 use Rattle.sparc_machine.specs.Machine.{register_of, with_register, operand_of, going_to, advanced}
 use Rattle.sparc_machine.specs.Memory.{load_size, store_size, atomic_size, is_float_store, float_size}
 use Rattle.sparc_machine.specs.Reads.{with_place, IsElsewhere, AreElsewhere, AgreesBut, EffectsAgreeBut, trapped, done, DependsOnReadsAlone}
@@ -22,12 +22,14 @@ use Rattle.sparc_machine.specs.declared.free.Free.{Free}
 use Rattle.sparc_machine.specs.declared.machine.Machine.{Machine}
 use Rattle.sparc_machine.specs.declared.trap.Trap.{Trap}
 use Rattle.sparc_machine.specs.declared.trap.Trap.TheVariants.{Misaligned, Unmodelled, Overflow, Underflow}
+use Rattle.word_ops.specs.Word.{product_of}
 
 module _ (p v : ℕ) where
   -- the same content of a register that stands elsewhere
   same_register : (m : Machine) (r : ℕ) → IsElsewhere m p r → register_of (with_place m p v) r ≡ register_of m r
   same_register m r h = elim (eqb_tells r 0) [
-    | inl zero ↦ ap (λ (b : Bool). cond b 0 (slice_index (slice_set m.regs p v) (physical_of m.cwp r))) zero.0 ∙ sym (ap (λ (b : Bool). cond b 0 (slice_index m.regs (physical_of m.cwp r))) zero.0)
+    | inl zero ↦ ap (λ (b : Bool). cond b 0 (slice_index (slice_set m.regs p v) (physical_of m.cwp r))) zero.0
+        ∙ sym (ap (λ (b : Bool). cond b 0 (slice_index m.regs (physical_of m.cwp r))) zero.0)
     | inr other ↦
         ap (λ (b : Bool). cond b 0 (slice_index (slice_set m.regs p v) (physical_of m.cwp r))) other.0
         ∙ get_or-set_other m.regs p (physical_of m.cwp r) v 0 (h other.1)
@@ -53,13 +55,19 @@ module _ (p v : ℕ) where
 
   -- a write of a register
   wrote_place : (m : Machine) (r x : ℕ) → AgreesBut p v (with_register m r x) (with_register (with_place m p v) r x)
-  wrote_place m r x = elim (eqb r 0) as (λ b. AgreesBut p v (cond b m (record m { regs = slice_set m.regs (physical_of m.cwp r) x })) (cond b (with_place m p v) (record (with_place m p v) { regs = slice_set (slice_set m.regs p v) (physical_of m.cwp r) x }))) [
-    | true ↦ inl refl
-    | false ↦ elim (eqb_tells p (physical_of m.cwp r)) [
-      | inl same ↦ inr (ap (λ (rs : List ℕ). record m { regs = rs }) (ap (λ (q : ℕ). slice_set (slice_set m.regs p v) q x) (sym same.1) ∙ set-set m.regs p v x ∙ ap (λ (q : ℕ). slice_set m.regs q x) same.1))
-      | inr other ↦ inl (ap (λ (rs : List ℕ). record m { regs = rs }) (set_comm m.regs p (physical_of m.cwp r) v x other.1))
-    ]
-  ]
+  wrote_place m r x =
+      elim (eqb r 0) as
+      (λ b.
+      AgreesBut p v (cond b m (record m { regs = slice_set m.regs (physical_of m.cwp r) x }))
+      (cond b (with_place m p v) (record (with_place m p v) { regs = slice_set (slice_set m.regs p v) (physical_of m.cwp r) x }))) [
+        | true ↦ inl refl
+        | false ↦ elim (eqb_tells p (physical_of m.cwp r)) [
+          | inl same ↦ inr
+              (ap (λ (rs : List ℕ). record m { regs = rs })
+              (ap (λ (q : ℕ). slice_set (slice_set m.regs p v) q x) (sym same.1) ∙ set-set m.regs p v x ∙ ap (λ (q : ℕ). slice_set m.regs q x) same.1))
+          | inr other ↦ inl (ap (λ (rs : List ℕ). record m { regs = rs }) (set_comm m.regs p (physical_of m.cwp r) v x other.1))
+        ]
+      ]
 
   wrote : (m n : Machine) (r x : ℕ) → AgreesBut p v m n → AgreesBut p v (with_register m r x) (with_register n r x)
   wrote m n r x (inl e) = subst (λ (s : Machine). AgreesBut p v (with_register m r x) (with_register s r x)) (sym e) (wrote_place m r x)
@@ -86,10 +94,14 @@ module _ (p v : ℕ) where
   unless_trap None e x h = h
   unless_trap (Some t) e x h = trapped t
 
-  jump : (m : Machine) (rd target : ℕ) → EffectsAgreeBut p v (in_order m (jumped m rd target)) (in_order (with_place m p v) (jumped (with_place m p v) rd target))
-  jump m rd target = by_test (is_in_order m) _ _ _ _ (by_test (eqb (target % 4) 0) _ _ _ _ (done false (went _ _ target (wrote m _ rd m.pc (inl refl)))) (trapped Misaligned)) (trapped Unmodelled)
+  jump : (m : Machine) (rd target : ℕ)
+      → EffectsAgreeBut p v (in_order m (jumped m rd target)) (in_order (with_place m p v) (jumped (with_place m p v) rd target))
+  jump m rd target =
+      by_test (is_in_order m) _ _ _ _
+      (by_test (eqb (target % 4) 0) _ _ _ _ (done false (went _ _ target (wrote m _ rd m.pc (inl refl)))) (trapped Misaligned)) (trapped Unmodelled)
 
-  branch : (m : Machine) (annul always taken : Bool) (target : ℕ) → EffectsAgreeBut p v (branched m annul always taken target) (branched (with_place m p v) annul always taken target)
+  branch : (m : Machine) (annul always taken : Bool) (target : ℕ)
+      → EffectsAgreeBut p v (branched m annul always taken target) (branched (with_place m p v) annul always taken target)
   branch m true true true target = done true (inl refl)
   branch m true false true target = done false (inl refl)
   branch m false always true target = done false (inl refl)
@@ -104,7 +116,8 @@ module _ (p v : ℕ) where
   flagged m free true = inl refl
   flagged m free false = inl refl
 
-  load : (image : List ℕ) (free : Free) (m : Machine) (kind : LoadKind) (rd a : ℕ) → EffectsAgreeBut p v (read_into image free m kind rd a) (read_into image free (with_place m p v) kind rd a)
+  load : (image : List ℕ) (free : Free) (m : Machine) (kind : LoadKind) (rd a : ℕ)
+      → EffectsAgreeBut p v (read_into image free m kind rd a) (read_into image free (with_place m p v) kind rd a)
   load image free m Ld rd a = write_on _ _ rd _ (inl refl)
   load image free m Ldub rd a = write_on _ _ rd _ (inl refl)
   load image free m Lduh rd a = write_on _ _ rd _ (inl refl)
@@ -113,7 +126,8 @@ module _ (p v : ℕ) where
   load image free m Ldsh rd a = write_on _ _ rd _ (inl refl)
 
   -- the registers of a store's operands are among those that it reads
-  stored : (m : Machine) (kind : StoreKind) (rd rs1 : ℕ) (second : Second) → AreElsewhere m p (registers_read (Store kind rd rs1 second)) → Elsewhere m rs1 second
+  stored : (m : Machine) (kind : StoreKind) (rd rs1 : ℕ) (second : Second) → AreElsewhere m p (registers_read (Store kind rd rs1 second))
+      → Elsewhere m rs1 second
   stored m St rd rs1 second h = h.1
   stored m Stb rd rs1 second h = h.1
   stored m Sth rd rs1 second h = h.1
@@ -135,7 +149,8 @@ module _ (p v : ℕ) where
 
   -- with the same words of both operands
   with_words : (F G : ℕ → ℕ → Effect) (a b x y : ℕ) → x ≡ a → y ≡ b → EffectsAgreeBut p v (F a b) (G a b) → EffectsAgreeBut p v (F a b) (G x y)
-  with_words F G a b x y e k h = subst (λ (s : ℕ). EffectsAgreeBut p v (F a b) (G s y)) (sym e) (subst (λ (s : ℕ). EffectsAgreeBut p v (F a b) (G a s)) (sym k) h)
+  with_words F G a b x y e k h =
+      subst (λ (s : ℕ). EffectsAgreeBut p v (F a b) (G s y)) (sym e) (subst (λ (s : ℕ). EffectsAgreeBut p v (F a b) (G a s)) (sym k) h)
 
   -- what each instruction does
   same : (image : List ℕ) (free : Free) (m : Machine) (i : Instr) → AreElsewhere m p (registers_read i) → Same image free m i
@@ -153,7 +168,8 @@ module _ (p v : ℕ) where
       (same_first m rs1 second h) (same_second m rs1 second h) (write_on _ _ rd _ (inl refl))
   same image free m (MulStep rd rs1 second) h = write_on _ _ rd _ (inl refl)
   same image free m (Shift op rd rs1 second) h =
-      with_words (λ x y. goes_on (with_register m rd (shift_result op x y))) (λ x y. goes_on (with_register (with_place m p v) rd (shift_result op x y))) _ _ _ _
+      with_words (λ x y. goes_on (with_register m rd (shift_result op x y)))
+      (λ x y. goes_on (with_register (with_place m p v) rd (shift_result op x y))) _ _ _ _
       (same_first m rs1 second h) (same_second m rs1 second h) (write_on _ _ rd _ (inl refl))
   same image free m (ReadY rd) h = write_on _ _ rd _ (inl refl)
   same image free m (WriteY rs1 second) h = went_on m _ (inl refl)
@@ -173,11 +189,13 @@ module _ (p v : ℕ) where
   same image free m (Load kind rd rs1 second) h =
       at_address (λ a. load_effect image free m kind rd a) (λ a. load_effect image free (with_place m p v) kind rd a) _ _
       (same_address m rs1 second h)
-      (by_test (is_odd_double_load kind rd) _ _ _ _ (trapped Unmodelled) (by_test (eqb (address_in m rs1 second % load_size kind) 0) _ _ _ _ (load image free m kind rd _) (trapped Misaligned)))
+      (by_test (is_odd_double_load kind rd) _ _ _ _ (trapped Unmodelled)
+      (by_test (eqb (address_in m rs1 second % load_size kind) 0) _ _ _ _ (load image free m kind rd _) (trapped Misaligned)))
   same image free m (Store kind rd rs1 second) h =
       at_address (λ a. store_effect image m kind rd a) (λ a. store_effect image (with_place m p v) kind rd a) _ _
       (same_address m rs1 second (stored m kind rd rs1 second h))
-      (by_test (is_odd_double_store kind rd) _ _ _ _ (trapped Unmodelled) (unless_trap (write_trap image (address_in m rs1 second) (store_size kind)) _ _ (went_on m _ (inl refl))))
+      (by_test (is_odd_double_store kind rd) _ _ _ _ (trapped Unmodelled)
+      (unless_trap (write_trap image (address_in m rs1 second) (store_size kind)) _ _ (went_on m _ (inl refl))))
   same image free m (Atomic swap rd rs1 second) h =
       at_address (λ a. atomic_effect image free m swap rd a) (λ a. atomic_effect image free (with_place m p v) swap rd a) _ _
       (same_address m rs1 second (swapped m swap rd rs1 second h))

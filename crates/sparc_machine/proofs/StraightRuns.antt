@@ -52,7 +52,8 @@ record GoesSomewhere (costs : List ℕ) (i : Instr) (m next : Machine) : Type 0 
   pub loaded : next.loaded ≡ mask_of (registers_loaded i)
 
 wrote : (costs : List ℕ) (i : Instr) (m next : Machine) (r value : ℕ)
-    → Stepped (charged (advanced (with_register m r value)) (step_cost costs m.loaded i false) (mask_of (registers_loaded i))) ≡ Stepped next → GoesOn costs i m next
+    → Stepped (charged (advanced (with_register m r value)) (step_cost costs m.loaded i false) (mask_of (registers_loaded i))) ≡ Stepped next
+    → GoesOn costs i m next
 wrote costs i m next r value e =
     let cost : ℕ = step_cost costs m.loaded i false in
     let same : SameCounters m (with_register m r value) = same_counters m r value in
@@ -64,7 +65,8 @@ wrote costs i m next r value e =
       loaded = sym (ap (λ (s : Machine). s.loaded) is);
     }
 
-computed : (image costs : List ℕ) (free : Free) (m next : Machine) (i : Instr) → only_computes i ≡ true → performed image costs free m i ≡ Stepped next → GoesOn costs i m next
+computed : (image costs : List ℕ) (free : Free) (m next : Machine) (i : Instr) → only_computes i ≡ true
+    → performed image costs free m i ≡ Stepped next → GoesOn costs i m next
 computed image costs free m next (Sethi rd imm) h e = wrote costs (Sethi rd imm) m next rd (imm * 1024) e
 computed image costs free m next (Alu Add false rd rs1 second) h e = wrote costs (Alu Add false rd rs1 second) m next rd _ e
 computed image costs free m next (Alu Or false rd rs1 second) h e = wrote costs (Alu Or false rd rs1 second) m next rd _ e
@@ -85,11 +87,19 @@ unfolding instruction_of
 the_return = refl
 
 -- a jump goes to its delay instruction first
-jumps : (costs : List ℕ) (i : Instr) (m next : Machine) (rd target : ℕ) → paid costs m.loaded i (in_order m (jumped m rd target)) ≡ Stepped next → GoesSomewhere costs i m next
+jumps : (costs : List ℕ) (i : Instr) (m next : Machine) (rd target : ℕ) → paid costs m.loaded i (in_order m (jumped m rd target)) ≡ Stepped next
+    → GoesSomewhere costs i m next
 jumps costs i m next rd target e =
-    elim (is_in_order m) as (λ b. paid costs m.loaded i (cond b (cond (eqb (target % 4) 0) (Done (going_to (with_register m rd m.pc) target) false) (Trapped Misaligned)) (Trapped Unmodelled)) ≡ Stepped next → GoesSomewhere costs i m next) [
+    elim (is_in_order m) as
+    (λ b.
+    paid costs m.loaded i
+    (cond b (cond (eqb (target % 4) 0) (Done (going_to (with_register m rd m.pc) target) false) (Trapped Misaligned)) (Trapped Unmodelled))
+    ≡ Stepped next → GoesSomewhere costs i m next) [
       | true ↦
-          elim (eqb (target % 4) 0) as (λ b. paid costs m.loaded i (cond b (Done (going_to (with_register m rd m.pc) target) false) (Trapped Misaligned)) ≡ Stepped next → GoesSomewhere costs i m next) [
+          elim (eqb (target % 4) 0) as
+          (λ b.
+          paid costs m.loaded i (cond b (Done (going_to (with_register m rd m.pc) target) false) (Trapped Misaligned)) ≡ Stepped next
+          → GoesSomewhere costs i m next) [
             | true ↦ λ k.
                 let cost : ℕ = step_cost costs m.loaded i false in
                 let same : SameCounters m (with_register m rd m.pc) = same_counters m rd m.pc in
@@ -118,7 +128,8 @@ passed image test a h = go (code_word image a) refl h where
   go (Some this) e t = record { this = this; word = e; holds = t }
 
 -- the step from an address where a word of code stands
-step_at : (image costs : List ℕ) (a this : ℕ) (m next : Machine) (step : StepsTo image costs m next) → m.pc ≡ a → code_word image a ≡ Some this → performed image costs step.free m (instruction_of this) ≡ Stepped next
+step_at : (image costs : List ℕ) (a this : ℕ) (m next : Machine) (step : StepsTo image costs m next) → m.pc ≡ a → code_word image a ≡ Some this
+    → performed image costs step.free m (instruction_of this) ≡ Stepped next
 step_at image costs a this m next step at word =
     let fetch : code_word image m.pc ≡ Some this = ap (code_word image) at ∙ word in
     subst (λ (w : Option ℕ). stepped_from image costs step.free m w ≡ Stepped next) fetch step.steps
@@ -131,7 +142,8 @@ word_of_code image a this h = go (is_code image a) h where
   go false e = cc
 
 -- what the step from an address where a word of code stands does to the stack
-transfer_at : (image : List ℕ) (a this : ℕ) (m : Machine) → m.pc ≡ a → code_word image a ≡ Some this → transfer_of image m ≡ transfer_from m (Some (instruction_of this)) (instruction_at image ((m.pc + 4) % 2 ^ 32))
+transfer_at : (image : List ℕ) (a this : ℕ) (m : Machine) → m.pc ≡ a → code_word image a ≡ Some this
+    → transfer_of image m ≡ transfer_from m (Some (instruction_of this)) (instruction_at image ((m.pc + 4) % 2 ^ 32))
 transfer_at image a this m at code =
     let fetch : word image m.pc ≡ Some this = ap (word image) at ∙ word_of_code image a this code in
     ap (λ (w : Option ℕ). transfer_from m (option_map instruction_of w) (instruction_at image ((m.pc + 4) % 2 ^ 32))) fetch
@@ -145,21 +157,26 @@ cost_within image costs entry i (suc n) h = elim (eq-or-lt_of_le h) [
 ]
 
 -- the cost of one word more
-pub code_cost_next : (image costs : List ℕ) (entry i : ℕ) → code_cost image costs entry (i + 1) ≡ code_cost image costs entry i + cost_alone costs (loaded_before image entry i) (code_instruction image (entry + 4 * i))
+pub code_cost_next : (image costs : List ℕ) (entry i : ℕ)
+    → code_cost image costs entry (i + 1) ≡ code_cost image costs entry i + cost_alone costs (loaded_before image entry i)
+    (code_instruction image (entry + 4 * i))
 code_cost_next image costs entry i = ap (code_cost image costs entry) (let same : i + 1 ≡ suc i = omega arith in same)
 
 -- the cost of a word where its instruction is known
-cost_of_word : (image costs : List ℕ) (before a this : ℕ) → code_word image a ≡ Some this → cost_alone costs before (code_instruction image a) ≡ step_cost costs before (instruction_of this) false
+cost_of_word : (image costs : List ℕ) (before a this : ℕ) → code_word image a ≡ Some this
+    → cost_alone costs before (code_instruction image a) ≡ step_cost costs before (instruction_of this) false
 cost_of_word image costs before a this h = ap (λ (w : Option ℕ). cost_alone costs before (option_map instruction_of w)) h
 
 -- no registers that are loaded make an instruction cost more than all do
 pub pair_most : (costs : List ℕ) (before : ℕ) (i : Instr) → pair_of costs before i ≤ pair_of costs all_registers i
 pair_most costs before i = go (cases_eq (bit_and all_registers (mask_of (registers_read i))) 0) where
-  go : (bit_and all_registers (mask_of (registers_read i)) ≡ 0) ⊎ (bit_and all_registers (mask_of (registers_read i)) ≢ 0) → pair_of costs before i ≤ pair_of costs all_registers i
+  go : (bit_and all_registers (mask_of (registers_read i)) ≡ 0) ⊎ (bit_and all_registers (mask_of (registers_read i)) ≢ 0)
+      → pair_of costs before i ≤ pair_of costs all_registers i
   go (inl none) =
       let word = set_is_word (registers_read i) in
       let low : bit_and (mask_of (registers_read i)) all_registers ≡ mask_of (registers_read i) % 2 ^ 32 = and_mask (mask_of (registers_read i)) 32 in
-      let turned : bit_and all_registers (mask_of (registers_read i)) ≡ bit_and (mask_of (registers_read i)) all_registers = and_comm all_registers (mask_of (registers_read i)) in
+      let turned : bit_and all_registers (mask_of (registers_read i)) ≡ bit_and (mask_of (registers_read i)) all_registers =
+      and_comm all_registers (mask_of (registers_read i)) in
       let empty : mask_of (registers_read i) ≡ 0 = omega arith in
       let own : bit_and before (mask_of (registers_read i)) ≤ mask_of (registers_read i) = and_le_r before (mask_of (registers_read i)) in
       let nothing : bit_and before (mask_of (registers_read i)) ≡ 0 = omega arith in
@@ -180,7 +197,8 @@ rest_none : (entry count most i : ℕ) → i ≤ count + 1 → IsRest entry coun
 rest_none entry count most i h = record { ends = omega arith; places = λ k m w e. cc; spends = λ k m e. cc }
 
 -- one machine more in front
-rest_cons : (entry count most i : ℕ) (m : Machine) (run : List Machine) → (i < count → m.pc ≡ entry + 4 * i) → m.cycles ≤ most → IsRest entry count most (i + 1) run → IsRest entry count most i (m ∷ run)
+rest_cons : (entry count most i : ℕ) (m : Machine) (run : List Machine) → (i < count → m.pc ≡ entry + 4 * i) → m.cycles ≤ most
+    → IsRest entry count most (i + 1) run → IsRest entry count most i (m ∷ run)
 rest_cons entry count most i m run at spent rest = record { ends = omega (arith, rest.ends); places = rest_places; spends = rest_spends } where
   rest_places : (k : ℕ) (x : Machine) → i + k < count → slice_get (m ∷ run) k ≡ Some x → x.pc ≡ entry + 4 * (i + k)
   rest_places zero x w e = let same : m ≡ x = cc in subst (λ (y : Machine). y.pc ≡ entry + 4 * (i + 0)) same (omega (arith, at (omega arith)))
@@ -213,15 +231,18 @@ module _ (image costs : List ℕ) (entry count : ℕ) (s : IsStraight image entr
   spent_behind : (i : ℕ) (m next : Machine) (this : ℕ) → IsAt i m → code_word image (entry + 4 * i) ≡ Some this
       → next.cycles ≡ m.cycles + step_cost costs m.loaded (instruction_of this) false → next.cycles ≤ start + code_cost image costs entry (i + 1)
   spent_behind i m next this here word spends =
-      let cost : cost_alone costs (loaded_before image entry i) (code_instruction image (entry + 4 * i)) ≡ step_cost costs (loaded_before image entry i) (instruction_of this) false =
+      let cost : cost_alone costs (loaded_before image entry i) (code_instruction image (entry + 4 * i)) ≡ step_cost costs
+      (loaded_before image entry i) (instruction_of this) false =
       cost_of_word image costs (loaded_before image entry i) (entry + 4 * i) this word in
       omega (arith, spends, here.spent, here.behind (instruction_of this), cost, code_cost_next image costs entry i)
 
   -- behind a step from a place, what it loaded is what its word loads
-  behind_word : (i : ℕ) (next : Machine) (this : ℕ) → code_word image (entry + 4 * i) ≡ Some this → next.loaded ≡ mask_of (registers_loaded (instruction_of this))
+  behind_word : (i : ℕ) (next : Machine) (this : ℕ) → code_word image (entry + 4 * i) ≡ Some this
+      → next.loaded ≡ mask_of (registers_loaded (instruction_of this))
       → (x : Instr) → pair_of costs next.loaded x ≤ pair_of costs (loaded_before image entry (i + 1)) x
   behind_word i next this word is x =
-      let loaded : loaded_before image entry (suc i) ≡ mask_of (registers_loaded (instruction_of this)) = ap (λ (w : Option ℕ). loads (option_map instruction_of w)) word in
+      let loaded : loaded_before image entry (suc i) ≡ mask_of (registers_loaded (instruction_of this)) =
+      ap (λ (w : Option ℕ). loads (option_map instruction_of w)) word in
       let place : i + 1 ≡ suc i = omega arith in
       le_of_eq (ap (λ (these : ℕ). pair_of costs these x) (is ∙ sym loaded ∙ ap (loaded_before image entry) (sym place)))
 
@@ -230,12 +251,14 @@ module _ (image costs : List ℕ) (entry count : ℕ) (s : IsStraight image entr
   KeepsFrame due frames run = (i : ℕ) → i + 1 < length run → frames_from image due frames run i ≢ []
 
   -- from the delay instruction of the return: one step, and the frame is popped
-  from_last : (i : ℕ) (m : Machine) (rest : List Machine) (frame : Frame) → i + 1 ≡ count → IsAt i m → RunsFrom image costs m rest → KeepsFrame Returns (frame ∷ []) (m ∷ rest) → IsRest entry count most i (m ∷ rest)
+  from_last : (i : ℕ) (m : Machine) (rest : List Machine) (frame : Frame) → i + 1 ≡ count → IsAt i m → RunsFrom image costs m rest
+      → KeepsFrame Returns (frame ∷ []) (m ∷ rest) → IsRest entry count most i (m ∷ rest)
   from_last i m [] frame last here steps ends =
       rest_cons entry count most i m [] (λ _. here.pc) (spent_within i m (omega arith) here) (rest_none entry count most (i + 1) (omega arith))
   from_last i m (next ∷ rest) frame last here steps ends =
       let at : Passed image only_computes (entry + 4 * i) = passed image only_computes (entry + 4 * i) (s.compute i (omega arith) (λ e. omega arith)) in
-      let goes : GoesOn costs (instruction_of at.this) m next = computed image costs steps.0.free m next (instruction_of at.this) at.holds (step_at image costs (entry + 4 * i) at.this m next steps.0 here.pc at.word) in
+      let goes : GoesOn costs (instruction_of at.this) m next =
+      computed image costs steps.0.free m next (instruction_of at.this) at.holds (step_at image costs (entry + 4 * i) at.this m next steps.0 here.pc at.word) in
       let spent : next.cycles ≤ start + code_cost image costs entry (i + 1) = spent_behind i m next at.this here at.word goes.cycles in
       let within : next.cycles ≤ most = omega (arith, spent, cost_within image costs entry (i + 1) count (omega arith)) in
       let none : rest ≡ [] = go rest ends in
@@ -247,7 +270,8 @@ module _ (image costs : List ℕ) (entry count : ℕ) (s : IsStraight image entr
         go (x ∷ r) k = absurd (k (suc zero) (omega arith) refl)
 
   -- from any place before that
-  pub from_place : (i : ℕ) (m : Machine) (rest : List Machine) (frame : Frame) → i + 2 ≤ count → IsAt i m → m.npc ≡ entry + 4 * (i + 1) → RunsFrom image costs m rest → KeepsFrame Stays (frame ∷ []) (m ∷ rest) → IsRest entry count most i (m ∷ rest)
+  pub from_place : (i : ℕ) (m : Machine) (rest : List Machine) (frame : Frame) → i + 2 ≤ count → IsAt i m → m.npc ≡ entry + 4 * (i + 1)
+      → RunsFrom image costs m rest → KeepsFrame Stays (frame ∷ []) (m ∷ rest) → IsRest entry count most i (m ∷ rest)
   from_place i m [] frame before here behind steps ends =
       rest_cons entry count most i m [] (λ _. here.pc) (spent_within i m (omega arith) here) (rest_none entry count most (i + 1) (omega arith))
   from_place i m (next ∷ rest) frame before here behind steps ends =
@@ -259,19 +283,30 @@ module _ (image costs : List ℕ) (entry count : ℕ) (s : IsStraight image entr
             let code : code_word image (entry + 4 * i) ≡ Some return_word = ap (λ (k : ℕ). code_word image (entry + 4 * k)) (sym place) ∙ s.leave in
             let is : instruction_of return_word ≡ leaf_return = the_return in
             let stepped = step_at image costs (entry + 4 * i) return_word m next steps.0 here.pc code in
-            let goes : GoesSomewhere costs leaf_return m next = jumps costs leaf_return m next 0 _ (subst (λ (x : Instr). performed image costs steps.0.free m x ≡ Stepped next) is stepped) in
-            let spends : next.cycles ≡ m.cycles + step_cost costs m.loaded (instruction_of return_word) false = goes.cycles ∙ ap (λ (x : Instr). m.cycles + step_cost costs m.loaded x false) (sym is) in
-            let loaded : next.loaded ≡ mask_of (registers_loaded (instruction_of return_word)) = goes.loaded ∙ ap (λ (x : Instr). mask_of (registers_loaded x)) (sym is) in
-            let transfer : transfer_of image m ≡ Returns = transfer_at image (entry + 4 * i) return_word m here.pc code ∙ ap (λ (x : Instr). transfer_from m (Some x) (instruction_at image ((m.pc + 4) % 2 ^ 32))) is in
+            let goes : GoesSomewhere costs leaf_return m next =
+            jumps costs leaf_return m next 0 _ (subst (λ (x : Instr). performed image costs steps.0.free m x ≡ Stepped next) is stepped) in
+            let spends : next.cycles ≡ m.cycles + step_cost costs m.loaded (instruction_of return_word) false =
+            goes.cycles ∙ ap (λ (x : Instr). m.cycles + step_cost costs m.loaded x false) (sym is) in
+            let loaded : next.loaded ≡ mask_of (registers_loaded (instruction_of return_word)) =
+            goes.loaded ∙ ap (λ (x : Instr). mask_of (registers_loaded x)) (sym is) in
+            let transfer : transfer_of image m ≡ Returns =
+            transfer_at image (entry + 4 * i) return_word m here.pc code
+            ∙ ap (λ (x : Instr). transfer_from m (Some x) (instruction_at image ((m.pc + 4) % 2 ^ 32))) is in
             from_last (i + 1) next rest frame (omega arith)
             (record { pc = goes.pc ∙ behind; spent = spent_behind i m next return_word here code spends; behind = behind_word i next return_word code loaded })
             steps.1 (λ k h. subst (λ (t : Transfer). frames_from image t (frame ∷ []) (next ∷ rest) k ≢ []) transfer (ends (suc k) (omega arith)))
         | inr earlier ↦
             let at : Passed image only_computes (entry + 4 * i) = passed image only_computes (entry + 4 * i) (s.compute i (omega arith) (λ e. omega arith)) in
-            let goes : GoesOn costs (instruction_of at.this) m next = computed image costs steps.0.free m next (instruction_of at.this) at.holds (step_at image costs (entry + 4 * i) at.this m next steps.0 here.pc at.word) in
+            let goes : GoesOn costs (instruction_of at.this) m next =
+            computed image costs steps.0.free m next (instruction_of at.this) at.holds
+            (step_at image costs (entry + 4 * i) at.this m next steps.0 here.pc at.word) in
             let transfer : transfer_of image m ≡ Stays = transfer_at image (entry + 4 * i) at.this m here.pc at.word ∙ stays m _ _ at.holds in
             from_place (i + 1) next rest frame (omega arith)
-            (record { pc = goes.pc ∙ behind; spent = spent_behind i m next at.this here at.word goes.cycles; behind = behind_word i next at.this at.word goes.loaded })
+            (record {
+              pc = goes.pc ∙ behind;
+              spent = spent_behind i m next at.this here at.word goes.cycles;
+              behind = behind_word i next at.this at.word goes.loaded;
+            })
             (let n = goes.npc in omega arith)
             steps.1 (λ k h. subst (λ (t : Transfer). frames_from image t (frame ∷ []) (next ∷ rest) k ≢ []) transfer (ends (suc k) (omega arith)))
       ])

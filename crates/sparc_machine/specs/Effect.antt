@@ -32,6 +32,7 @@ use Rattle.sparc_machine.specs.declared.trap.Trap.TheVariants.{Fetch, Unmodelled
 use Rattle.word_ops.specs.Condition.{holds_of}
 use Rattle.word_ops.specs.Flags.{sum_flags_of, difference_flags_of, logic_flags_of}
 use Rattle.word_ops.specs.Word.{sum_of, difference_of, complement_of, shifted_left, shifted_right, shifted_right_signed}
+pub use Rattle.word_ops.specs.Word.{product_of}
 use Rattle.word_ops.specs.declared.arithmetic.Flags.{Flags}
 
 -- what an instruction comes to: the machine after it, and whether the instruction behind it was annulled; or a trap
@@ -144,10 +145,6 @@ turned m window trap rd value =
 abbrev pub freely_flagged : Machine → Free → Bool → Machine
 freely_flagged m free true = with_flags m (flags_from free.flags)
 freely_flagged m free false = m
-
--- the low 32 bits of a product, which are the same with sign and without
-abbrev pub product_of : ℕ → ℕ → ℕ
-product_of x y = (x * y) % 2 ^ 32
 
 -- a double word is read into rd and the register behind it
 abbrev pub read_double : List ℕ → Free → Machine → ℕ → ℕ → Effect

@@ -344,7 +344,7 @@ pub fn execute(
             rs1,
             second,
         } => {
-            let product = m.register(rs1).wrapping_mul(m.operand(second));
+            let product = word_ops::product(m.register(rs1), m.operand(second));
             executing::write_flagged(m, free, cc, rd, product);
             Ok(false)
         }

@@ -2,12 +2,11 @@
 ghost use Rattle.std.specs.Prelude.{◌≡◌, ◌<◌, false, IfErr, IfOk, OnErr};
 ghost use Rattle.sparc_decode.specs.Instr.{InRange, IsOperand};
 ghost use Rattle.sparc_machine.specs.Machine.{advanced, with_register};
-ghost use Rattle.word_ops.specs.Word.{complement_of};
 ghost use Rattle.sparc_machine.specs.Effect.{Done, Trapped, flags_in, with_flags, flags_from, target_of, address_in, alu_result, alu_flags, operated, tagged_result, shift_result, freely_flagged, branched, float_taken, jumped, is_in_order, is_invalid, turned};
 
 use crate::{Free, Machine, Trap};
 use sparc_decode::{AluOp, Second, ShiftOp, TaggedOp};
-use word_ops::{Flags, difference, difference_flags, logic_flags, sum, sum_flags};
+use word_ops::{Flags, complement, difference, difference_flags, logic_flags, sum, sum_flags};
 
 /// The condition codes of a machine.
 pub fn flags(m: &Machine) -> Flags
@@ -65,13 +64,6 @@ pub fn address(m: &Machine, rs1: u8, second: Second) -> u32
     ensures { result ≡ address_in m.now rs1 second }
 {
     m.register(rs1).wrapping_add(m.operand(second))
-}
-
-/// Every bit turned over.
-fn complement(x: u32) -> u32
-    ensures { result ≡ complement_of x }
-{
-    x ^ 0xffff_ffff
 }
 
 /// The result of an operation.

@@ -43,7 +43,8 @@ passes (b ∷ bs) = nat_lt b 128 && passes bs
 
 ascii_from_test : (bs : List ℕ) → passes bs ≡ true → IsAscii bs
 ascii_from_test [] h = IsAscii-nil
-ascii_from_test (b ∷ bs) h = let both = and_parts (nat_lt b 128) (passes bs) h in IsAscii-cons b bs (grind (arith, nat_tests, both.0)) (ascii_from_test bs both.1)
+ascii_from_test (b ∷ bs) h =
+    let both = and_parts (nat_lt b 128) (passes bs) h in IsAscii-cons b bs (grind (arith, nat_tests, both.0)) (ascii_from_test bs both.1)
 
 literal : (text : List ℕ) → passes text ≡ true → IsPlain text
 literal text h = record { ascii = ascii_from_test text h }

@@ -37,7 +37,8 @@ first_is_least x xs w rises has =
 in_rest : (x : ℕ) (xs : List ℕ) (w : ℕ) → Contains (x ∷ xs) w → x < w → Contains xs w
 in_rest x xs w has above = ⊎_elim (λ is. absurd (omega (arith, is))) (λ rest. rest) (first_or_rest x xs w has)
 
-same_rising : (xs ys : List ℕ) → IsStrictlyIncreasing xs → IsStrictlyIncreasing ys → ((w : ℕ) → Contains xs w → Contains ys w) → ((w : ℕ) → Contains ys w → Contains xs w) → xs ≡ ys
+same_rising : (xs ys : List ℕ) → IsStrictlyIncreasing xs → IsStrictlyIncreasing ys → ((w : ℕ) → Contains xs w → Contains ys w)
+    → ((w : ℕ) → Contains ys w → Contains xs w) → xs ≡ ys
 same_rising [] [] rises others there back = refl
 same_rising [] (y ∷ ys) rises others there back = absurd (omega (arith, (back y (here y ys)).1))
 same_rising (x ∷ xs) [] rises others there back = absurd (omega (arith, (there x (here x xs)).1))
@@ -60,4 +61,5 @@ same_addresses image xs ys first second =
 
 pub one_listing : (image one other : List ℕ) → IsListing image one → IsListing image other → one ≡ other
 one_listing image one other first second =
-    first.lines ∙ ap (λ (xs : List ℕ). flat_map (λ a. line_at image a) xs) (same_addresses image first.addresses second.addresses first.code second.code) ∙ sym second.lines
+    first.lines
+    ∙ ap (λ (xs : List ℕ). flat_map (λ a. line_at image a) xs) (same_addresses image first.addresses second.addresses first.code second.code) ∙ sym second.lines

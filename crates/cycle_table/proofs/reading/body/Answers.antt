@@ -20,7 +20,8 @@ loop-row-preserved c =
     let row : Row = record { number = c.in-Some.row.number; words = c.in-Some.row.name.now ∷ words_of c.in-Some.row.words.now } in
     let body : List Row = rows_from (c.args.before + 1) (lines c.args.text.now) in
     let rest : List Row = rows_from (c.in-Some.row.number + 1) (lines c.in-Some.row.after.now) in
-    let read : IsRead c.args.version body (row ∷ rest) c.loop-row.costs = subst (λ (rows : List Row). IsRead c.args.version body rows c.loop-row.costs) c.in-Some.ensures.row c.loop-row.invariant.read in
+    let read : IsRead c.args.version body (row ∷ rest) c.loop-row.costs =
+    subst (λ (rows : List Row). IsRead c.args.version body rows c.loop-row.costs) c.in-Some.ensures.row c.loop-row.invariant.read in
     let written : c.put.new.costs ≡ slice_set c.loop-row.costs (place_of c.in-Ok.class) c.in-Ok.cost = c.in_ok-put-in-Ok.ensures.written in
     record {
       read = subst (λ (costs : List ℕ). IsRead c.args.version body rest costs) (sym written)
