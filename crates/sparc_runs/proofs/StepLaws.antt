@@ -17,6 +17,7 @@ use Rattle.sparc_decode.specs.declared.instruction.Instr.{Instr}
 use Rattle.sparc_decode.specs.declared.instruction.Instr.TheVariants.{Call, Unimp, Sethi, Branch, FloatBranch, Alu, Tagged, MulStep, Shift, ReadY, WriteY, FloatOp, FloatCmp, Jmpl, Flush, Save, Restore, Ticc, Load, Store, Atomic, FloatMem, Unmodelled as UnmodelledWord, Unknown, Multiply, Divide}
 use Rattle.sparc_decode.specs.declared.instruction.LoadKind.{LoadKind}
 use Rattle.sparc_decode.specs.declared.instruction.LoadKind.TheVariants.{Ld, Ldub, Lduh, Ldd, Ldsb, Ldsh}
+use Rattle.sparc_machine.proofs.StraightRuns.{pair_most}
 use Rattle.sparc_machine.specs.Effect.{Effect, Done, Trapped, goes_on, flags_in, effect_of, step_cost, is_in_order, target_of, address_in, branched, branch_effect, float_taken, is_invalid, turned, read_into, is_odd_double_load, write_trap, is_odd_double_store, unless_trapped}
 use Rattle.sparc_machine.specs.Machine.{IsMachine, with_register, going_to, charged}
 use Rattle.sparc_machine.specs.Memory.{load_size, store_size, atomic_size, float_size, is_float_store}
@@ -27,7 +28,7 @@ use Rattle.sparc_machine.specs.declared.trap.Trap.{Trap}
 use Rattle.sparc_machine.specs.declared.trap.Trap.TheVariants.{Unmodelled, Overflow, Underflow}
 use Rattle.sparc_runs.proofs.Acting.{Acts, ActsAfter, acts, elsewhere_by, window_behind}
 use Rattle.sparc_runs.proofs.Stepping.{IsStep, parts, same_instruction}
-use Rattle.sparc_runs.specs.Cost.{StepsCost, own_cost, annulled_cost, annuls, branch_annuls, pair_cost}
+use Rattle.sparc_runs.specs.Cost.{StepsLoad, AllAreOwedMost, StepsCost, own_cost, annulled_cost, annuls, branch_annuls, pair_cost}
 use Rattle.sparc_runs.specs.Sound.{AreBytes, StepsKeepMachines}
 use Rattle.sparc_runs.specs.Window.{IsInUse, MovesLevel, WindowsStayInUse, LevelsMove}
 use Rattle.sparc_runs.specs.Written.{WritesOnly, StepsWriteOnly}
@@ -272,3 +273,12 @@ steps_cost image costs m next step =
       cycles = subst (λ (o : Option Instr). next.cycles ≡ m.cycles + pair_cost costs m.loaded o + own_cost costs o
           + annulled_cost costs o m.pc next.pc) (sym here) there;
     }
+
+pub steps_load : StepsLoad
+steps_load image cycles m next i step is =
+    let s = parts image cycles m next step in
+    ap (λ (x : Machine). x.loaded) s.is ∙ ap (λ (x : Instr). mask_of (registers_loaded x)) (same_instruction image m.pc s.this i s.code is)
+
+pub owed_most : AllAreOwedMost
+owed_most costs loaded None = omega arith
+owed_most costs loaded (Some i) = pair_most costs loaded i

@@ -3,7 +3,7 @@ use Rattle.std.proofs.Common.{◌≡◌, ◌≢◌, ℕ, zero, suc, pos, neg_ℤ
 use Rattle.std.specs.Prelude.{◌==◌, slice_set}
 use Rattle.std.specs.Int.Signed.{le_z_yes}
 use Rattle.std.proofs.lemmas.Bool.{false≢true}
-use Rattle.std.proofs.lemmas.List.Elements.{All-nil, All-cons, All-set, All-replicate, All-head}
+use Rattle.std.proofs.lemmas.List.Elements.{All-set, All-replicate}
 use Rattle.assert_bind.specs.Sight.{IsMetBy}
 use Rattle.assert_bind.specs.declared.body.BoundAssertion.{BoundAssertion}
 use Rattle.assert_bind.specs.declared.body.BoundBody.{BoundBody}
@@ -202,17 +202,15 @@ met_stub (suc (suc (suc (suc zero)))) F G below within due frames sub = cc
 met_stub (suc (suc (suc (suc (suc zero))))) F G below within due frames sub = cc
 met_stub (suc (suc (suc (suc (suc (suc i)))))) F G below within due frames sub = absurd (omega arith)
 
-abbrev Met : BoundAssertion → Type 0
-Met assertion = IsMet image heads at_call behind assertion.body
-
 met : Meets image heads at_call behind kept
-met =
-    All-cons Met _ _ tt (All-cons Met _ _ met_at (All-cons Met _ _ met_never (All-cons Met _ _ met_jump
-    (All-cons Met _ _ met_call (All-cons Met _ _ met_loop (All-cons Met _ _ met_stub (All-nil Met)))))))
-
--- what one assertion alone says
-alone : (assertion : BoundAssertion) → Meets image heads at_call behind (assertion ∷ []) → Met assertion
-alone assertion meets = All-head Met assertion [] meets
+met zero d less = tt
+met (suc zero) d less = met_at
+met (suc (suc zero)) d less = met_never
+met (suc (suc (suc zero))) d less = met_jump
+met (suc (suc (suc (suc zero)))) d less = met_call
+met (suc (suc (suc (suc (suc zero))))) d less = met_loop
+met (suc (suc (suc (suc (suc (suc zero)))))) d less = met_stub
+met (suc (suc (suc (suc (suc (suc (suc i))))))) d less = absurd (omega (arith, less))
 
 -- addresses that aren't listed
 not_listed : (a b : ℕ) → (a == b) ≡ false → Contains {X = ℕ} (a ∷ []) b → ⊥
@@ -247,14 +245,17 @@ breaks_stub keeps =
     let most : 4 ≤ 2 + 1 = h.spends in
     absurd (omega arith)
 
-abbrev Broken : BoundAssertion → Type 0
-Broken assertion = ¬ Meets image heads at_call behind (assertion ∷ [])
+any : BoundAssertion
+any = record { line = 0; body = body.Root 0 }
 
-breaks : All Broken broken
-breaks =
-    All-cons Broken _ _ (λ meets. breaks_at (alone _ meets)) (All-cons Broken _ _ (λ meets. breaks_never (alone _ meets))
-    (All-cons Broken _ _ (λ meets. breaks_jump (alone _ meets)) (All-cons Broken _ _ (λ meets. breaks_call (alone _ meets))
-    (All-cons Broken _ _ (λ meets. breaks_loop (alone _ meets)) (All-cons Broken _ _ (λ meets. breaks_stub (alone _ meets)) (All-nil Broken))))))
+breaks : All (λ assertion. ¬ Meets image heads at_call behind (assertion ∷ [])) broken
+breaks zero d less = λ meets. breaks_at (meets 0 any (omega arith))
+breaks (suc zero) d less = λ meets. breaks_never (meets 0 any (omega arith))
+breaks (suc (suc zero)) d less = λ meets. breaks_jump (meets 0 any (omega arith))
+breaks (suc (suc (suc zero))) d less = λ meets. breaks_call (meets 0 any (omega arith))
+breaks (suc (suc (suc (suc zero)))) d less = λ meets. breaks_loop (meets 0 any (omega arith))
+breaks (suc (suc (suc (suc (suc zero))))) d less = λ meets. breaks_stub (meets 0 any (omega arith))
+breaks (suc (suc (suc (suc (suc (suc i)))))) d less = absurd (omega (arith, less))
 
 pub meet_and_break : RunsMeetAndBreak
 meet_and_break = record { met = met; broken = breaks }
