@@ -1,5 +1,5 @@
 -- The classes of a version: where they stand, and which of them a line can name.
-use Rattle.std.proofs.Common.{◌≡◌, ℕ, ◌<◌, ◌≤◌, inl, inr, Bool, true, false, ◌&&◌, List, [], ◌∷◌, length, get_or, Option, Some, None, Result, Ok, Err, refl, sym, ap, subst, ◌∙◌, arith, ltb, cond}
+use Rattle.std.proofs.Common.{◌≡◌, ℕ, ◌<◌, inl, inr, Bool, true, ◌&&◌, List, [], ◌∷◌, length, get_or, Option, Some, None, Ok, refl, sym, ap, subst, ◌∙◌, arith, ltb}
 use Rattle.std.specs.Prelude.{find}
 use Rattle.std.specs.Str.{bytes_eq}
 use Rattle.std.proofs.lemmas.Bool.{cases_Bool, ltb-true, and_parts}
@@ -9,7 +9,6 @@ use Rattle.cycle_table.specs.Row.{says, names_as, costs_as, ends_with, greatest_
 use Rattle.line_text.specs.Numeral.{number_up_to}
 use Rattle.cycle_table.specs.declared.classes.Version.{Version}
 use Rattle.cycle_table.specs.declared.classes.Version.TheVariants.{One, Two}
-use Rattle.cycle_table.specs.declared.refusal.Why.{Why}
 use Rattle.sparc_decode.specs.declared.cost_class.CostClass.{CostClass}
 use Rattle.sparc_decode.specs.declared.cost_class.CostClass.TheVariants.{Alu, Shift, Sethi, Tagged, Mulscc, Save, Restore, Branch, Floatbranch, Call, Jump, Load, Loaddouble, Store, Storedouble, Atomic, Ready, Writey, Flush, Floatop, Floatcmp, Floatload, Floatloaddouble, Floatstore, Floatstoredouble, Trap, Annulled, Loaduse, Multiply, Divide, Unmodelled}
 

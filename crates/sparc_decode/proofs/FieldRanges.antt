@@ -1,5 +1,5 @@
 -- The fields of the instruction that a word stands for are in range.
-use Rattle.std.proofs.Common.{◌≡◌, ℕ, ◌+◌, ◌-◌, ◌/◌, ◌%◌, ◌^◌, ◌<◌, ◌*◌, Bool, true, false, List, [], ◌∷◌, cond, eqb, ltb, if◌then◌else◌, nat_lt, refl, subst, sym, arith, pos, ◌≤ℤ◌, ◌<ℤ◌, neg_ℤ, ◌-ℤ◌, inl, inr}
+use Rattle.std.proofs.Common.{ℕ, ◌^◌, ◌<◌, Bool, true, false, List, [], ◌∷◌, drop, cond, eqb, if◌then◌else◌, nat_lt, arith, pos, ◌-ℤ◌, inl, inr}
 use Rattle.std.proofs.lemmas.Bool.{cases_lt, lt-ltb, le-ltb}
 use Rattle.sparc_decode.specs.Instr.{instruction_of, AreOperands, IsOperand, InRange, FieldsAreInRange}
 use Rattle.sparc_decode.specs.Opcodes.{branches, calls, operations, memory, table_of, selector_of}
@@ -60,26 +60,52 @@ branch_fits word = (condition_fits word, signed_22 (field word 0 22) (omega arit
 ticc_fits : (word : ℕ) → (field word 25 4 < 16) × (field word 14 5 < 32) × IsOperand (second_of word)
 ticc_fits word = (condition_fits word, register_fits word 14, second_fits word)
 
+sethi_fits : (word : ℕ) → (field word 25 5 < 32) × (field word 0 22 < 2 ^ 22)
+sethi_fits word = (register_fits word 25, imm_fits word)
+
+ready_fits : (word : ℕ) → field word 25 5 < 32
+ready_fits word = register_fits word 25
+
+any_fits : (word : ℕ) → Unit {0}
+any_fits word = tt
+
 -- one for each row of the table
 branches_fit : AllInRange branches
-branches_fit =
-    (λ w. imm_fits w, (branch_fits, (λ w. (register_fits w 25, imm_fits w), (branch_fits, (λ w. tt, tt)))))
+branches_fit = (imm_fits, (branch_fits, (sethi_fits, (branch_fits, (any_fits, tt)))))
 
--- one for each row of the table
+-- of the longer tables the last rows first
+operations_from_36 : AllInRange (drop 36 operations)
+operations_from_36 = (triple_fits, (ticc_fits, (pair_fits, (triple_fits, (triple_fits, (any_fits, tt))))))
+
+operations_from_30 : AllInRange (drop 30 operations)
+operations_from_30 = (triple_fits, (triple_fits, (ready_fits, (pair_fits, (any_fits, (any_fits, operations_from_36))))))
+
+operations_from_24 : AllInRange (drop 24 operations)
+operations_from_24 = (triple_fits, (triple_fits, (triple_fits, (triple_fits, (triple_fits, (triple_fits, operations_from_30))))))
+
+operations_from_18 : AllInRange (drop 18 operations)
+operations_from_18 = (triple_fits, (triple_fits, (triple_fits, (triple_fits, (triple_fits, (triple_fits, operations_from_24))))))
+
+operations_from_12 : AllInRange (drop 12 operations)
+operations_from_12 = (triple_fits, (triple_fits, (triple_fits, (triple_fits, (triple_fits, (triple_fits, operations_from_18))))))
+
+operations_from_6 : AllInRange (drop 6 operations)
+operations_from_6 = (triple_fits, (triple_fits, (triple_fits, (triple_fits, (triple_fits, (triple_fits, operations_from_12))))))
+
 operations_fit : AllInRange operations
-operations_fit =
-    (triple_fits, (triple_fits, (triple_fits, (triple_fits, (triple_fits, (triple_fits, (triple_fits, (triple_fits, (triple_fits,
-    (triple_fits, (triple_fits, (triple_fits, (triple_fits, (triple_fits, (triple_fits, (triple_fits, (triple_fits, (triple_fits,
-    (triple_fits, (triple_fits, (triple_fits, (triple_fits, (triple_fits, (triple_fits, (triple_fits, (triple_fits, (triple_fits,
-    (triple_fits, (triple_fits, (triple_fits, (triple_fits, (triple_fits, (λ w. register_fits w 25, (pair_fits, (λ w. tt, (λ w. tt,
-    (triple_fits, (ticc_fits, (pair_fits, (triple_fits, (triple_fits, (λ w. tt, tt))))))))))))))))))))))))))))))))))))))))))
+operations_fit = (triple_fits, (triple_fits, (triple_fits, (triple_fits, (triple_fits, (triple_fits, operations_from_6))))))
 
--- one for each row of the table
+memory_from_18 : AllInRange (drop 18 memory)
+memory_from_18 = (any_fits, (any_fits, (any_fits, tt)))
+
+memory_from_12 : AllInRange (drop 12 memory)
+memory_from_12 = (triple_fits, (triple_fits, (triple_fits, (triple_fits, (triple_fits, (triple_fits, memory_from_18))))))
+
+memory_from_6 : AllInRange (drop 6 memory)
+memory_from_6 = (triple_fits, (triple_fits, (triple_fits, (triple_fits, (triple_fits, (triple_fits, memory_from_12))))))
+
 memory_fit : AllInRange memory
-memory_fit =
-    (triple_fits, (triple_fits, (triple_fits, (triple_fits, (triple_fits, (triple_fits, (triple_fits, (triple_fits, (triple_fits,
-    (triple_fits, (triple_fits, (triple_fits, (triple_fits, (triple_fits, (triple_fits, (triple_fits, (triple_fits, (triple_fits,
-    (λ w. tt, (λ w. tt, (λ w. tt, tt)))))))))))))))))))))
+memory_fit = (triple_fits, (triple_fits, (triple_fits, (triple_fits, (triple_fits, (triple_fits, memory_from_6))))))
 
 calls_fit : AllInRange calls
 calls_fit = (λ w. omega arith, tt)

@@ -12,5 +12,7 @@ mod registers;
 pub use cost_class::{CostClass, class};
 pub use decoding::decode;
 pub use instruction::{AluOp, FloatKind, Instr, LoadKind, Second, ShiftOp, StoreKind, TaggedOp};
-pub use laws::{each_word_stands_for_one, fields_are_in_range, no_selector_stands_twice, sets_name_registers};
+pub use laws::{
+    each_word_stands_for_one, fields_are_in_range, no_selector_stands_twice, sets_name_registers,
+};
 pub use registers::{loaded, reads, writes};

@@ -96,7 +96,7 @@ straight_of image costs entry i spent few before last =
 
 -- and they are all the straight code there is
 pub all_straight : (image costs : List ℕ) (entry i count : ℕ) → i ≤ 131070 → ArePassed image entry i → (i ≡ 131070) ⊎ IsBlocked image entry i → IsStraight image entry count → Leaves image costs entry i
-        (cost_alone costs (loaded_before image entry i) (code_instruction image (entry + 4 * i)) + cost_alone costs (loaded_before image entry (suc i)) (code_instruction image (entry + 4 * (i + 1))))
+    (cost_alone costs (loaded_before image entry i) (code_instruction image (entry + 4 * i)) + cost_alone costs (loaded_before image entry (suc i)) (code_instruction image (entry + 4 * (i + 1))))
 all_straight image costs entry i count few before stops s =
     let long = s.long in let short = s.few in let within = s.within in
     let same : i + 2 ≡ count = elim (cases_lt (i + 2) count) [

@@ -6,8 +6,8 @@ use Rattle.std.proofs.lemmas.Nat.{and_mask, and_comm, and_le_r}
 use Rattle.std.specs.Prelude.{slice_get, slice_set, pos, bit_and}
 use Rattle.std.specs.Option.{option_map}
 use Rattle.bt_image.specs.Image.{word, is_code}
-use Rattle.cycle_table.specs.Class.{has_eight, cost_at}
-use Rattle.cycle_table.specs.Cycles.{cost_of, pair_of}
+use Rattle.cycle_table.specs.Class.{cost_at}
+use Rattle.cycle_table.specs.Cycles.{pair_of}
 use Rattle.sparc_decode.specs.Instr.{instruction_of}
 use Rattle.sparc_decode.specs.Register.{mask_of, registers_read, registers_loaded}
 use Rattle.sparc_decode.proofs.RegisterSets.{set_is_word}
@@ -16,7 +16,7 @@ use Rattle.sparc_decode.specs.declared.instruction.AluOp.TheVariants.{Add, Or}
 use Rattle.sparc_decode.specs.declared.instruction.Instr.{Instr}
 use Rattle.sparc_decode.specs.declared.instruction.Instr.TheVariants.{Sethi, Alu, Jmpl}
 use Rattle.sparc_decode.specs.declared.instruction.Second.TheVariants.{Imm}
-use Rattle.sparc_machine.specs.Effect.{Done, Trapped, effect_of, in_order, is_in_order, jumped, step_cost, paid, performed, stepped_from, code_word}
+use Rattle.sparc_machine.specs.Effect.{Done, Trapped, in_order, is_in_order, jumped, step_cost, paid, performed, stepped_from, code_word}
 use Rattle.sparc_machine.specs.Frame.{Transfer, Stays, Returns, Frame, StepsTo, RunsFrom, transfer_from, transfer_of, instruction_at, config_from}
 use Rattle.sparc_machine.specs.Machine.{with_register, going_to, advanced, charged}
 use Rattle.sparc_machine.specs.Outcome.{Stepped}

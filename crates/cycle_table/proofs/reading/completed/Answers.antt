@@ -1,8 +1,7 @@
-use Rattle.std.proofs.Common.{rules, ◌≡◌, ◌<◌, ◌≤◌, ℕ, length, None, sym, subst, ◌∙◌}
+use Rattle.std.proofs.Common.{rules, ◌≡◌, ◌<◌, ◌≤◌, length, None, sym, subst, ◌∙◌}
 use Rattle.cycle_table.proofs.Faults.{none_free, none_missing, tells_version}
-use Rattle.cycle_table.specs.Class.{place_of, count_of, cost_at, first_free, version_of}
+use Rattle.cycle_table.specs.Class.{place_of, count_of, first_free, version_of}
 use Rattle.cycle_table.specs.declared.classes.Version.{Version}
-use Rattle.sparc_decode.specs.declared.cost_class.CostClass.{CostClass}
 use Rattle.cycle_table.proofs.reading.completed.Goals as goal
 
 pub returns-in-None-clause-costs : goal.returns-in-None-clause-costs

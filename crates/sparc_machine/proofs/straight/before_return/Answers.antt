@@ -1,4 +1,4 @@
-use Rattle.std.proofs.Common.{◌≡◌, ◌+◌, ◌*◌, arith, sym, ◌∙◌}
+use Rattle.std.proofs.Common.{arith, ◌∙◌}
 use Rattle.sparc_machine.proofs.BoundedRuns.{passed_next, loaded_next, cost_next}
 use Rattle.sparc_machine.proofs.straight.before_return.Goals as goal
 
