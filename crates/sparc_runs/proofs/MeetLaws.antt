@@ -27,6 +27,7 @@ shown image heads first rest i within (body.CallTo pc to) h = h i within
 shown image heads first rest i within (body.Loop pc count) h = tt
 shown image heads first rest i within (body.Stub entry time) h = tt
 
+-- what is shown at each place meets each assertion
 pub sights_meet : SightsMeet
 sights_meet image heads first rest list meets i within =
     All-weaker (λ (a : BoundAssertion). IsMet image heads first rest a.body) (λ (a : BoundAssertion). IsMetBy a.body (sight_at image first rest i))
@@ -41,6 +42,7 @@ goes_there image free m after annulled target (Jmpl rd rs1 second) does shows =
     ap (λ (x : Machine). x.npc) jump.is ∙ same
 goes_there image free m after annulled target _ does shows = cc
 
+-- the target that is shown is taken
 pub targets_taken : TargetsAreTaken
 targets_taken image cycles m next target step shows =
     let s = parts image cycles m next step in

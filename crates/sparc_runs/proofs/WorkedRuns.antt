@@ -57,6 +57,7 @@ registers_are_words : All (λ (word : ℕ). word < 2 ^ 32) first_registers
 registers_are_words =
     All-set (λ (word : ℕ). word < 2 ^ 32) (replicate 136 0) 8 4112 (omega arith) (All-replicate (λ (word : ℕ). word < 2 ^ 32) 136 0 (omega arith))
 
+-- it is a run
 pub worked_run : IsWorkedRun
 worked_run = record {
   begins = record {
@@ -81,6 +82,7 @@ worked_run = record {
 other_start : (F G : Frame) (rest more : List Frame) → (F ∷ rest) ≡ (G ∷ more) → F.start.cycles ≡ G.start.cycles
 other_start F G rest more same = let e : F ≡ G = cc in ap (λ (x : Frame). x.start.cycles) e
 
+-- its frames
 pub worked_frames : HasWorkedFrames
 unfolding holder held word_field half_field section_at instruction_of
 worked_frames = record {
@@ -257,5 +259,6 @@ breaks (suc (suc (suc (suc zero)))) d less = λ meets. breaks_loop (meets 0 any 
 breaks (suc (suc (suc (suc (suc zero))))) d less = λ meets. breaks_stub (meets 0 any (omega arith))
 breaks (suc (suc (suc (suc (suc (suc i)))))) d less = absurd (omega (arith, less))
 
+-- it meets the one list and breaks the other
 pub meet_and_break : RunsMeetAndBreak
 meet_and_break = record { met = met; broken = breaks }
