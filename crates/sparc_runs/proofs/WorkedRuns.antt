@@ -1,10 +1,9 @@
 -- The worked run, its frames, and the assertions that it meets and breaks.
-use Rattle.std.proofs.Common.{◌≡◌, ◌≢◌, ℕ, zero, suc, pos, neg_ℤ, ◌+◌, ◌*◌, ◌%◌, ◌^◌, ◌<◌, ◌≤◌, Bool, true, false, List, [], ◌∷◌, ◌++◌, length, replicate, map, Option, Some, None, All, Contains, refl, sym, ap, subst, ◌∙◌, arith, eq-eqb}
-use Rattle.std.specs.Prelude.{◌==◌, slice_set}
+use Rattle.std.proofs.Common.{◌≡◌, ℕ, zero, suc, pos, neg_ℤ, ◌+◌, ◌^◌, ◌<◌, ◌≤◌, false, List, [], ◌∷◌, ◌++◌, replicate, map, All, Contains, refl, sym, ap, subst, ◌∙◌, arith, eq-eqb}
+use Rattle.std.specs.Prelude.{◌==◌}
 use Rattle.std.specs.Int.Signed.{le_z_yes}
 use Rattle.std.proofs.lemmas.Bool.{false≢true}
 use Rattle.std.proofs.lemmas.List.Elements.{All-set, All-replicate}
-use Rattle.assert_bind.specs.Sight.{IsMetBy}
 use Rattle.assert_bind.specs.declared.body.BoundAssertion.{BoundAssertion}
 use Rattle.assert_bind.specs.declared.body.BoundBody.{BoundBody}
 use Rattle.assert_bind.specs.declared.body.BoundBody.TheVariants as body
@@ -14,13 +13,11 @@ use Rattle.bt_image.specs.Section.{section_at}
 use Rattle.graph_laws.proofs.Walks.{passes-append}
 use Rattle.graph_laws.specs.Walk.{passes}
 use Rattle.sparc_decode.specs.Instr.{instruction_of}
-use Rattle.sparc_machine.specs.Frame.{Frame, Transfer, Stays, Calls, Returns, IsFree, StepsTo, RunsFrom, BeginsAt, root_frame, machine_at, due_at, frames_at}
-use Rattle.sparc_machine.specs.Machine.{IsMachine}
+use Rattle.sparc_machine.specs.Frame.{Frame, IsFree, StepsTo, root_frame, machine_at}
 use Rattle.sparc_machine.specs.declared.free.Free.{Free}
-use Rattle.sparc_machine.specs.declared.machine.Machine.{Machine}
 use Rattle.sparc_runs.specs.Activation.{Activation, activations_at, places_of}
-use Rattle.sparc_runs.specs.Meets.{Heads, IsMet, IsShown, KeepsLoops, KeepsStubs, Meets, sight_at}
-use Rattle.sparc_runs.specs.Stub.{StubReturns, StubKeeps}
+use Rattle.sparc_runs.specs.Meets.{IsShown, KeepsLoops, KeepsStubs, Meets}
+use Rattle.sparc_runs.specs.Stub.{StubKeeps}
 use Rattle.sparc_runs.specs.Worked.{image, costs, first_registers, at_call, at_delay, at_entry, at_return, at_head, at_turn, at_head_again, behind, the_frame, heads, kept, broken, IsWorkedRun, HasWorkedFrames, RunsMeetAndBreak}
 
 abbrev nothing : Free
