@@ -56,6 +56,7 @@ module _ (image : List ℕ) (free : Free) (m : Machine) where
     pub cycles : after.cycles ≡ m.cycles
     pub machine : Premises → IsMachine after
 
+  -- the same of an effect that is no trap
   abbrev pub ActsAfter : List ℕ → ℕ → Effect → Type 0
   ActsAfter registers w (Done next annulled) = Acts registers w next
   ActsAfter registers w (Trapped trap) = Unit {0}

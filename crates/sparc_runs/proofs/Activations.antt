@@ -40,6 +40,7 @@ module _ (image : List ℕ) (first : Machine) (rest : List Machine) where
       let k = later i a h in
       record { start = k.start; within = k.within; later = All-push (λ (place : ℕ). place ≤ suc i) a.later (suc i) k.later (omega arith) }
 
+  -- what holds of each activation holds behind a step
   pub active_behind : (due : Transfer) (i : ℕ) (these : List Activation) → All (IsActive image first rest i) these
       → All (IsActive image first rest (suc i)) (activations_after due (machine_at image first rest (suc i)) (suc i) these)
   active_behind due i [] h = All-nil (IsActive image first rest (suc i))
@@ -69,6 +70,7 @@ module _ (image : List ℕ) (first : Machine) (rest : List Machine) where
   top_behind Returns m place (top ∷ under ∷ others) a below is =
       let same : also_at place under ≡ a = cc in subst (λ (x : Activation). latest x ≡ place) same (end_pushed under.first place under.later)
 
+  -- at each place
   pub are : (i : ℕ) → i ≤ length rest → AreActivations image first rest i
   are zero within = record {
     frames = refl;
@@ -91,5 +93,6 @@ module _ (image : List ℕ) (first : Machine) (rest : List Machine) where
         top = λ a below is. top_behind (due_at image first rest i) (machine_at image first rest (suc i)) (suc i) (activations_at image first rest i) a below is;
       }
 
+-- activations have the frames of the stack
 pub are_frames : ActivationsAreFrames
 are_frames image first rest i within = are image first rest i within

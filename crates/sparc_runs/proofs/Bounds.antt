@@ -39,23 +39,27 @@ below_everywhere limit xs k some all = elim (cases_lt k (length xs)) [
   | inr past ↦ subst (λ (x : ℕ). x < limit) (sym (get_or_past xs k 0 past)) some
 ]
 
+-- what a machine has in a register is a word
 pub register_word : (m : Machine) (r : ℕ) → IsMachine m → register_of m r < 2 ^ 32
 register_word m r is = go (eqb r 0) where
   go : (b : Bool) → cond b 0 (slice_index m.regs (physical_of m.cwp r)) < 2 ^ 32
   go true = omega arith
   go false = below_everywhere (2 ^ 32) m.regs (physical_of m.cwp r) (omega arith) is.words
 
+-- so is what a second operand comes to
 pub operand_word : (m : Machine) (second : Second) → IsMachine m → IsOperand second → operand_of m second < 2 ^ 32
 operand_word m (Reg r) is range = register_word m r is
 operand_word m (Imm (pos n)) is range = let h = range.1 in omega (arith, ints)
 operand_word m (Imm (negsuc n)) is range = omega (arith, ints)
 
+-- both of them
 pub operands_words : OperandsAreWords
 operands_words = record { first = register_word; second = operand_word }
 
 complement_word : (y : ℕ) → y < 2 ^ 32 → complement_of y < 2 ^ 32
 complement_word y h = xor_of_32 y (2 ^ 32 - 1) h (omega arith)
 
+-- the result of an operation is a word
 pub alu_word : (op : AluOp) (x y : ℕ) (c : Bool) → x < 2 ^ 32 → y < 2 ^ 32 → alu_result op x y c < 2 ^ 32
 alu_word Add x y c a b = omega arith
 alu_word And x y c a b = let h = and_le_l x y in omega arith
@@ -68,11 +72,13 @@ alu_word Xnor x y c a b = complement_word (bit_xor x y) (xor_of_32 x y a b)
 alu_word Addx x y c a b = omega arith
 alu_word Subx x y c a b = omega arith
 
+-- the result of a shift
 pub shift_word : (op : ShiftOp) (x y : ℕ) → x < 2 ^ 32 → shift_result op x y < 2 ^ 32
 shift_word Sll x y a = omega arith
 shift_word Srl x y a = let h = div-le_self x (2 ^ (y % 32)) in omega arith
 shift_word Sra x y a = omega arith
 
+-- the result of a tagged operation
 pub tagged_word : (op : TaggedOp) (x y : ℕ) → tagged_result op x y < 2 ^ 32
 tagged_word Taddcc x y = omega arith
 tagged_word Tsubcc x y = omega arith
@@ -134,12 +140,14 @@ loaded_word Ldd image a free are other = absurd (other refl)
 loaded_word Ldsb image a free are other = extended_byte _ (read_one_byte (constant_bytes image a 1) free (constant_held image a 1 are))
 loaded_word Ldsh image a free are other = extended_half _ (read_two_bytes (constant_bytes image a 2) free (constant_held image a 2 are))
 
+-- the first word of a double word that is read
 pub first_below : (image : List ℕ) (a free : ℕ) → AreBytes image → free < 2 ^ 32 → first_word (constant_bytes image a 8) free < 2 ^ 32
 first_below image a free are within = go (constant_bytes image a 8) (constant_held image a 8 are) where
   go : (o : Option (List ℕ)) → AreHeld o → first_word o free < 2 ^ 32
   go None h = within
   go (Some these) h = big_below 4 these h
 
+-- the second one
 pub second_below : (image : List ℕ) (a free : ℕ) → AreBytes image → free < 2 ^ 32 → second_word (constant_bytes image a 8) free < 2 ^ 32
 second_below image a free are within = go (constant_bytes image a 8) (constant_held image a 8 are) where
   go : (o : Option (List ℕ)) → AreHeld o → second_word o free < 2 ^ 32

@@ -114,6 +114,7 @@ module _ (m : Machine) where
         subst (λ (b : Bool). cond b (branched m annul (eqb condition 8) taken (target_of m.pc disp)) (Trapped Unmodelled) ≡ Done after annulled) h.0 does in
         cc
 
+  -- where each instruction goes on to
   pub goes : (image : List ℕ) (free : Free) (i : Instr) (after : Machine) (annulled : Bool) → effect_of image free m i ≡ Done after annulled → Goes i m after
   goes image free (Call disp) after annulled does = jumped_leads after 15 _ (call_parts m after ((m.pc + disp * 4) % 2 ^ 32) annulled does)
   goes image free (Unimp imm) after annulled does = cc
@@ -176,6 +177,7 @@ goes_charged (FloatBranch annul condition disp) m after cost these h =
     (h.0, branch_charged m annul (eqb condition 8) h.0 (target_of m.pc disp) after cost these h.1)
 goes_charged _ m after cost these h = stands_charged _ _ after cost these h
 
+-- so each step does
 pub steps_go : StepsGo
 steps_go image cycles m next i step is =
     let s = parts image cycles m next step in
@@ -197,6 +199,7 @@ offset_of n h = go (cases_Bool (int_eq n (pos 12))) (or_cases (int_eq n (pos 8))
       ap (cast_unsigned w32) is ∙ sym (ap (λ (t : Bool). cond t 12 8) other)
   go (inr other) (inr twelve) = cc
 
+-- a return leads eight or twelve bytes behind what r15 or r31 has
 pub lead_back : ReturnsLeadBack
 lead_back image cycles m next (Jmpl rd rs1 (Imm n)) step is ret =
     let outer = and_parts (eqb rd 0) ((int_eq n (pos 8) || int_eq n (pos 12)) && (eqb rs1 15 || eqb rs1 31)) ret in

@@ -13,6 +13,7 @@ top_used : (invalid : ℕ) (top : Frame) (rest : List Frame) → AreHigh invalid
 top_used invalid top [] high = high
 top_used invalid top (below ∷ rest) high = high.0
 
+-- a push at depth 0 or 1 keeps a stack high
 pub pushes_high : PushesKeepHigh
 pushes_high invalid target address m top rest masked high near =
     let used = top_used invalid top rest high in
@@ -54,6 +55,7 @@ between invalid top (below ∷ rest) G high (suc k, within, is) =
     let a = high.1 in let b = h.least in
     record { used = h.used; least = omega arith; most = h.most }
 
+-- where each frame of a high stack stands
 pub frames_above : HighFramesAreAbove
 frames_above invalid top rest below high G among =
     let h = between invalid top rest G high among in
@@ -62,6 +64,7 @@ frames_above invalid top rest below high G among =
     let at = above invalid top.start.cwp G.start.cwp (root_window top rest) below used h.used root h.least h.most in
     record { window = at.0; least = h.least; most = at.1 }
 
+-- a stub leaves the windows of the frames below it
 pub stubs_keep : StubsKeepFramesBelow
 stubs_keep invalid F rest m below high returns G among r low upper =
     let h = frames_above invalid F rest below high G among in

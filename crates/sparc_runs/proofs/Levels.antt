@@ -2,9 +2,11 @@
 use Rattle.std.proofs.Common.{arith}
 use Rattle.sparc_runs.specs.Window.{LevelsAreBelowSeven, DepthsAreWindows}
 
+-- the level of a window in use
 pub below_seven : LevelsAreBelowSeven
 below_seven invalid cwp below used = let w = used.window in let o = used.other in omega arith
 
+-- what depths are
 pub depths : DepthsAreWindows
 depths = record {
   start = λ cwp w. omega arith;

@@ -32,6 +32,7 @@ quotient power part x positive whole within =
         let least : key x / power * power ≤ key x = div-mul-le_self (key x) power in
         absurd (omega arith)
 
+-- a shift with sign is a quotient
 pub divides : ShiftsDivide
 divides x count within =
     let k : ℕ = count % 32 in
@@ -39,6 +40,7 @@ divides x count within =
     let part : 2 ^ 31 / 2 ^ k ≡ 2 ^ (31 - k) = ap (λ (n : ℕ). n / 2 ^ k) split ∙ mul-div_cancel (2 ^ (31 - k)) (pow_pos k) in
     quotient (2 ^ k) (2 ^ 31 / 2 ^ k) x (pow_pos k) (ap (λ (n : ℕ). n * 2 ^ k) part ∙ sym split) within
 
+-- condition codes of a sum
 pub sums : SumsAreMeant
 sums x y true a b = record {
   result =
@@ -59,6 +61,7 @@ sums x y false a b = record {
   overflows = (λ h. grind (arith, nat_tests), λ h. grind (arith, nat_tests));
 }
 
+-- condition codes of a difference
 pub differences : DifferencesAreMeant
 differences x y true a b = record {
   result =
@@ -79,6 +82,7 @@ differences x y false a b = record {
   overflows = (λ h. grind (arith, nat_tests), λ h. grind (arith, nat_tests));
 }
 
+-- condition codes of a logical operation
 pub logic : LogicIsDifference
 logic word within =
     let d : difference_of word 0 false ≡ word = omega arith in

@@ -1,8 +1,8 @@
 -- What a run that meets assertions shows at each place.
-use Rattle.std.proofs.Common.{◌≡◌, ℕ, ◌<◌, ◌≤◌, Bool, true, false, List, length, Option, Some, None, All, refl, sym, ap, subst, ◌∙◌, arith}
+use Rattle.std.proofs.Common.{◌≡◌, ℕ, ◌≤◌, Bool, List, length, Option, Some, ap, subst, ◌∙◌}
 use Rattle.std.specs.Option.{option_map}
 use Rattle.std.proofs.lemmas.List.Elements.{All-weaker}
-use Rattle.assert_bind.specs.Sight.{IsMetBy, MeetsEach}
+use Rattle.assert_bind.specs.Sight.{IsMetBy}
 use Rattle.assert_bind.specs.declared.body.BoundAssertion.{BoundAssertion}
 use Rattle.assert_bind.specs.declared.body.BoundBody.{BoundBody}
 use Rattle.assert_bind.specs.declared.body.BoundBody.TheVariants as body
@@ -13,9 +13,9 @@ use Rattle.sparc_machine.specs.Effect.{Done, effect_of, address_in}
 use Rattle.sparc_machine.specs.Straight.{code_instruction}
 use Rattle.sparc_machine.specs.declared.free.Free.{Free}
 use Rattle.sparc_machine.specs.declared.machine.Machine.{Machine}
-use Rattle.sparc_runs.proofs.Stepping.{IsStep, parts}
+use Rattle.sparc_runs.proofs.Stepping.{parts}
 use Rattle.sparc_runs.proofs.Transfers.{jump_parts}
-use Rattle.sparc_runs.specs.Meets.{Heads, IsMet, Meets, SightsMeet, TargetsAreTaken, sight_at, sight_of, target_by}
+use Rattle.sparc_runs.specs.Meets.{Heads, IsMet, SightsMeet, TargetsAreTaken, sight_at, target_by}
 
 shown : (image : List ℕ) (heads : Heads) (first : Machine) (rest : List Machine) (i : ℕ) → i ≤ length rest → (says : BoundBody)
     → IsMet image heads first rest says → IsMetBy says (sight_at image first rest i)
@@ -27,6 +27,7 @@ shown image heads first rest i within (body.CallTo pc to) h = h i within
 shown image heads first rest i within (body.Loop pc count) h = tt
 shown image heads first rest i within (body.Stub entry time) h = tt
 
+-- what is shown at each place meets each assertion
 pub sights_meet : SightsMeet
 sights_meet image heads first rest list meets i within =
     All-weaker (λ (a : BoundAssertion). IsMet image heads first rest a.body) (λ (a : BoundAssertion). IsMetBy a.body (sight_at image first rest i))
@@ -41,6 +42,7 @@ goes_there image free m after annulled target (Jmpl rd rs1 second) does shows =
     ap (λ (x : Machine). x.npc) jump.is ∙ same
 goes_there image free m after annulled target _ does shows = cc
 
+-- the target that is shown is taken
 pub targets_taken : TargetsAreTaken
 targets_taken image cycles m next target step shows =
     let s = parts image cycles m next step in

@@ -18,12 +18,14 @@ step_from image cycles c [] i within runs = absurd (omega arith)
 step_from image cycles c (next ∷ rest) zero within runs = runs.0
 step_from image cycles c (next ∷ rest) (suc i) within runs = step_from image cycles (config_after image c next) rest i (omega arith) runs.1
 
+-- a place and the next
 pub next_from : (image : List ℕ) (c : Config) (rest : List Machine) (i : ℕ) → i < length rest
     → config_from image c rest (suc i) ≡ config_after image (config_from image c rest i) (config_from image c rest (suc i)).machine
 next_from image c [] i within = absurd (omega arith)
 next_from image c (next ∷ rest) zero within = refl
 next_from image c (next ∷ rest) (suc i) within = next_from image (config_after image c next) rest i (omega arith)
 
+-- a run at its places
 pub at_places : RunsAreAtPlaces
 at_places image cycles first rest runs = record {
   first_due = refl;
@@ -41,6 +43,7 @@ IsKept image cycles P = (c : Config) (next : Machine) → P c → StepsTo image 
 
 -- what holds of where a run begins, and is kept by each step, holds at each place
 module _ (image cycles : List ℕ) (P : Config → Type 0) (keeps : IsKept image cycles P) where
+  -- at each place
   pub throughout : (c : Config) (rest : List Machine) → P c → RunsFrom image cycles c.machine rest → (i : ℕ) → P (config_from image c rest i)
   throughout c rest holds runs zero = holds
   throughout c [] holds runs (suc i) = holds
@@ -66,5 +69,6 @@ none_behind image c rest (suc i) zero less none = absurd (omega arith)
 none_behind image c [] (suc i) (suc j) less none = none
 none_behind image c (next ∷ rest) (suc i) (suc j) less none = none_behind image (config_after image c next) rest i j (omega arith) none
 
+-- once it is empty a stack stays so
 pub empty_stays : EmptyStacksStay
 empty_stays image first rest i j less none = none_behind image (first_config first) rest i j less none

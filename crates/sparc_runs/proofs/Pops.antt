@@ -137,6 +137,7 @@ not_behind image m pc caller within word leaves call behind order at =
     let there : (m.pc + 2 ^ 32 - 4) % 2 ^ 32 ≡ caller = omega arith in
     clash (code_instruction image caller) (subst (λ (a : ℕ). passes returns (code_instruction image a) ≡ true) there leaves.leave) call
 
+-- a frame that is popped behind its call goes on there
 pub pops_go_on : PopsBehindCallsGoOn
 pops_go_on image cycles invalid c next F running due step word call behind = record { npc = npc; due = stays } where
   s : IsStep image cycles c.machine next

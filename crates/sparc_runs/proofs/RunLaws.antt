@@ -11,6 +11,7 @@ use Rattle.sparc_runs.specs.Running.{IsRunning, ArePushed, IsDue, StepsKeepRunni
 use Rattle.sparc_runs.specs.Sound.{AreBytes}
 use Rattle.sparc_runs.specs.Window.{IsMasked}
 
+-- every step keeps what holds of each machine
 pub keep_running : StepsKeepRunning
 keep_running image cycles invalid c next bytes running step = record {
   machine = keeps_machines image cycles c.machine next bytes running.machine step;
@@ -46,6 +47,7 @@ kept image cycles invalid first bytes c next h step =
       pushed = pushed_behind image cycles invalid first c.due c.machine next c.frames h.running.machine after.machine after.mask h.running.due step h.pushed;
     }
 
+-- it holds at every place
 pub runs_running : RunsAreRunning
 runs_running image cycles entry first rest bytes begins runs =
     let window : ℕ = begins.mask.0 in

@@ -17,6 +17,7 @@ use Rattle.sparc_decode.specs.declared.instruction.Instr.{Instr}
 use Rattle.sparc_decode.specs.declared.instruction.Instr.TheVariants.{Call, Unimp, Sethi, Branch, FloatBranch, Alu, Tagged, MulStep, Shift, ReadY, WriteY, FloatOp, FloatCmp, Jmpl, Flush, Save, Restore, Ticc, Load, Store, Atomic, FloatMem, Unmodelled as UnmodelledWord, Unknown, Multiply, Divide}
 use Rattle.sparc_decode.specs.declared.instruction.LoadKind.{LoadKind}
 use Rattle.sparc_decode.specs.declared.instruction.LoadKind.TheVariants.{Ld, Ldub, Lduh, Ldd, Ldsb, Ldsh}
+use Rattle.sparc_machine.proofs.StraightRuns.{pair_most}
 use Rattle.sparc_machine.specs.Effect.{Effect, Done, Trapped, goes_on, flags_in, effect_of, step_cost, is_in_order, target_of, address_in, branched, branch_effect, float_taken, is_invalid, turned, read_into, is_odd_double_load, write_trap, is_odd_double_store, unless_trapped}
 use Rattle.sparc_machine.specs.Machine.{IsMachine, with_register, going_to, charged}
 use Rattle.sparc_machine.specs.Memory.{load_size, store_size, atomic_size, float_size, is_float_store}
@@ -27,7 +28,7 @@ use Rattle.sparc_machine.specs.declared.trap.Trap.{Trap}
 use Rattle.sparc_machine.specs.declared.trap.Trap.TheVariants.{Unmodelled, Overflow, Underflow}
 use Rattle.sparc_runs.proofs.Acting.{Acts, ActsAfter, acts, elsewhere_by, window_behind}
 use Rattle.sparc_runs.proofs.Stepping.{IsStep, parts, same_instruction}
-use Rattle.sparc_runs.specs.Cost.{StepsCost, own_cost, annulled_cost, annuls, branch_annuls, pair_cost}
+use Rattle.sparc_runs.specs.Cost.{StepsLoad, AllAreOwedMost, StepsCost, own_cost, annulled_cost, annuls, branch_annuls, pair_cost}
 use Rattle.sparc_runs.specs.Sound.{AreBytes, StepsKeepMachines}
 use Rattle.sparc_runs.specs.Window.{IsInUse, MovesLevel, WindowsStayInUse, LevelsMove}
 use Rattle.sparc_runs.specs.Written.{WritesOnly, StepsWriteOnly}
@@ -44,20 +45,25 @@ module _ (image cycles : List ℕ) (m next : Machine) (s : IsStep image cycles m
       subst (ActsAfter image s.free m (registers_written the_instruction) (window_behind the_instruction m.cwp)) s.does
       (acts image s.free m the_instruction (all_in_range s.this))
 
+  -- the window is that which the instruction leaves
   pub same_window : next.cwp ≡ s.after.cwp
   same_window = ap (λ (x : Machine). x.cwp) s.is
 
+  -- and that is known by the instruction
   pub window_is : next.cwp ≡ window_behind the_instruction m.cwp
   window_is = same_window ∙ acted.at
 
+  -- the mask stays
   pub same_mask : next.wim ≡ m.wim
   same_mask = ap (λ (x : Machine). x.wim) s.is ∙ acted.mask
 
+  -- only registers that the instruction writes are written
   pub only_written : WritesOnly (registers_written the_instruction) m next
   only_written place e =
       ap (λ (x : Machine). slice_index x.regs place) s.is
       ∙ acted.only place (elsewhere_by next s.after place same_window (registers_written the_instruction) e)
 
+  -- a machine is left
   pub is_machine : AreBytes image → IsMachine m → IsMachine next
   is_machine bytes machine =
       let k = acted.machine (record { bytes = bytes; within = s.within; machine = machine }) in
@@ -74,11 +80,13 @@ module _ (image cycles : List ℕ) (m next : Machine) (s : IsStep image cycles m
       } in
       subst IsMachine (sym s.is) whole
 
+-- a step writes no other registers
 pub writes_only : StepsWriteOnly
 writes_only image cycles m next i step is =
     let s = parts image cycles m next step in
     subst (λ (x : Instr). WritesOnly (registers_written x) m next) (same_instruction image m.pc s.this i s.code is) (only_written image cycles m next s)
 
+-- a step keeps a machine
 pub keeps_machines : StepsKeepMachines
 keeps_machines image cycles m next bytes machine step = is_machine image cycles m next (parts image cycles m next step) bytes machine
 
@@ -109,6 +117,7 @@ in_use_behind image free m after invalid annulled (Restore rd rs1 second) mask u
     turned_in_use m after ((m.cwp + 1) % 8) Underflow rd (address_in m rs1 second) invalid annulled (omega arith) mask does
 in_use_behind image free m after invalid annulled _ mask used does = used
 
+-- a step keeps the window in use
 pub stay_in_use : WindowsStayInUse
 stay_in_use image cycles m next invalid masked step =
     let s = parts image cycles m next step in
@@ -127,6 +136,7 @@ moves invalid (Restore rd rs1 second) m next below used behind is =
     let a = used.window in let b = used.other in let c = behind.other in omega arith
 moves invalid _ m next below used behind is = is
 
+-- levels move with SAVE and RESTORE alone
 pub levels_move : LevelsMove
 levels_move image cycles m next invalid i masked step is =
     let s = parts image cycles m next step in
@@ -255,6 +265,7 @@ cost_parts costs i false spent loaded from to is =
     subst (λ (b : Bool). spent + step_cost costs loaded i false ≡ spent + pair_of costs loaded i + own_cost costs (Some i) + cond b
     (cost_at costs Annulled) 0) is (omega arith)
 
+-- what each step costs
 pub steps_cost : StepsCost
 steps_cost image costs m next step =
     let s = parts image costs m next step in
@@ -272,3 +283,14 @@ steps_cost image costs m next step =
       cycles = subst (λ (o : Option Instr). next.cycles ≡ m.cycles + pair_cost costs m.loaded o + own_cost costs o
           + annulled_cost costs o m.pc next.pc) (sym here) there;
     }
+
+-- what each step leaves as loaded
+pub steps_load : StepsLoad
+steps_load image cycles m next i step is =
+    let s = parts image cycles m next step in
+    ap (λ (x : Machine). x.loaded) s.is ∙ ap (λ (x : Instr). mask_of (registers_loaded x)) (same_instruction image m.pc s.this i s.code is)
+
+-- all registers are owed the most
+pub owed_most : AllAreOwedMost
+owed_most costs loaded None = omega arith
+owed_most costs loaded (Some i) = pair_most costs loaded i

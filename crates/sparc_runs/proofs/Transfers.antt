@@ -37,12 +37,14 @@ ordered m after x annulled does = elim (eqb_tells m.npc ((m.pc + 4) % 2 ^ 32)) [
   | inr h ↦ (let there : Trapped Unmodelled ≡ Done after annulled = subst (λ (b : Bool). cond b x (Trapped Unmodelled) ≡ Done after annulled) h.0 does in cc)
 ]
 
+-- the parts of a call
 pub call_parts : (m after : Machine) (target : ℕ) (annulled : Bool) → called m target ≡ Done after annulled → IsJump m after 15 target
 call_parts m after target annulled does =
     let h = ordered m after (Done (going_to (with_register m 15 m.pc) target) false) annulled does in
     let same : Done (going_to (with_register m 15 m.pc) target) false ≡ Done after annulled = h.1 in
     record { order = h.0; is = cc }
 
+-- the parts of a jump
 pub jump_parts : (m after : Machine) (rd target : ℕ) (annulled : Bool) → in_order m (jumped m rd target) ≡ Done after annulled → IsJump m after rd target
 jump_parts m after rd target annulled does =
     let h = ordered m after (jumped m rd target) annulled does in
@@ -209,6 +211,7 @@ without x (r ∷ rs) w near none = (
 not_listed : (rs : List ℕ) → eqb (bit_and (mask_of rs) 0x8000) 0 ≡ true → Contains rs 15 → ⊥
 not_listed rs none named = ((has_exactly rs 15).1 (omega arith, omega arith, named)) (eqb-true (bit_and (mask_of rs) 0x8000) 0 none)
 
+-- the delay instruction of a call keeps the window and r15
 pub keep_links : DelaysKeepLinks
 keep_links image cycles target address m next machine calls step =
     let s = parts image cycles m next step in

@@ -1,10 +1,9 @@
 -- The worked run, its frames, and the assertions that it meets and breaks.
-use Rattle.std.proofs.Common.{◌≡◌, ◌≢◌, ℕ, zero, suc, pos, neg_ℤ, ◌+◌, ◌*◌, ◌%◌, ◌^◌, ◌<◌, ◌≤◌, Bool, true, false, List, [], ◌∷◌, ◌++◌, length, replicate, map, Option, Some, None, All, Contains, refl, sym, ap, subst, ◌∙◌, arith, eq-eqb}
-use Rattle.std.specs.Prelude.{◌==◌, slice_set}
+use Rattle.std.proofs.Common.{◌≡◌, ℕ, zero, suc, pos, neg_ℤ, ◌+◌, ◌^◌, ◌<◌, ◌≤◌, false, List, [], ◌∷◌, ◌++◌, replicate, map, All, Contains, refl, sym, ap, subst, ◌∙◌, arith, eq-eqb}
+use Rattle.std.specs.Prelude.{◌==◌}
 use Rattle.std.specs.Int.Signed.{le_z_yes}
 use Rattle.std.proofs.lemmas.Bool.{false≢true}
-use Rattle.std.proofs.lemmas.List.Elements.{All-nil, All-cons, All-set, All-replicate, All-head}
-use Rattle.assert_bind.specs.Sight.{IsMetBy}
+use Rattle.std.proofs.lemmas.List.Elements.{All-set, All-replicate}
 use Rattle.assert_bind.specs.declared.body.BoundAssertion.{BoundAssertion}
 use Rattle.assert_bind.specs.declared.body.BoundBody.{BoundBody}
 use Rattle.assert_bind.specs.declared.body.BoundBody.TheVariants as body
@@ -14,13 +13,11 @@ use Rattle.bt_image.specs.Section.{section_at}
 use Rattle.graph_laws.proofs.Walks.{passes-append}
 use Rattle.graph_laws.specs.Walk.{passes}
 use Rattle.sparc_decode.specs.Instr.{instruction_of}
-use Rattle.sparc_machine.specs.Frame.{Frame, Transfer, Stays, Calls, Returns, IsFree, StepsTo, RunsFrom, BeginsAt, root_frame, machine_at, due_at, frames_at}
-use Rattle.sparc_machine.specs.Machine.{IsMachine}
+use Rattle.sparc_machine.specs.Frame.{Frame, IsFree, StepsTo, root_frame, machine_at}
 use Rattle.sparc_machine.specs.declared.free.Free.{Free}
-use Rattle.sparc_machine.specs.declared.machine.Machine.{Machine}
 use Rattle.sparc_runs.specs.Activation.{Activation, activations_at, places_of}
-use Rattle.sparc_runs.specs.Meets.{Heads, IsMet, IsShown, KeepsLoops, KeepsStubs, Meets, sight_at}
-use Rattle.sparc_runs.specs.Stub.{StubReturns, StubKeeps}
+use Rattle.sparc_runs.specs.Meets.{IsShown, KeepsLoops, KeepsStubs, Meets}
+use Rattle.sparc_runs.specs.Stub.{StubKeeps}
 use Rattle.sparc_runs.specs.Worked.{image, costs, first_registers, at_call, at_delay, at_entry, at_return, at_head, at_turn, at_head_again, behind, the_frame, heads, kept, broken, IsWorkedRun, HasWorkedFrames, RunsMeetAndBreak}
 
 abbrev nothing : Free
@@ -57,6 +54,7 @@ registers_are_words : All (λ (word : ℕ). word < 2 ^ 32) first_registers
 registers_are_words =
     All-set (λ (word : ℕ). word < 2 ^ 32) (replicate 136 0) 8 4112 (omega arith) (All-replicate (λ (word : ℕ). word < 2 ^ 32) 136 0 (omega arith))
 
+-- it is a run
 pub worked_run : IsWorkedRun
 worked_run = record {
   begins = record {
@@ -81,6 +79,7 @@ worked_run = record {
 other_start : (F G : Frame) (rest more : List Frame) → (F ∷ rest) ≡ (G ∷ more) → F.start.cycles ≡ G.start.cycles
 other_start F G rest more same = let e : F ≡ G = cc in ap (λ (x : Frame). x.start.cycles) e
 
+-- its frames
 pub worked_frames : HasWorkedFrames
 unfolding holder held word_field half_field section_at instruction_of
 worked_frames = record {
@@ -202,17 +201,15 @@ met_stub (suc (suc (suc (suc zero)))) F G below within due frames sub = cc
 met_stub (suc (suc (suc (suc (suc zero))))) F G below within due frames sub = cc
 met_stub (suc (suc (suc (suc (suc (suc i)))))) F G below within due frames sub = absurd (omega arith)
 
-abbrev Met : BoundAssertion → Type 0
-Met assertion = IsMet image heads at_call behind assertion.body
-
 met : Meets image heads at_call behind kept
-met =
-    All-cons Met _ _ tt (All-cons Met _ _ met_at (All-cons Met _ _ met_never (All-cons Met _ _ met_jump
-    (All-cons Met _ _ met_call (All-cons Met _ _ met_loop (All-cons Met _ _ met_stub (All-nil Met)))))))
-
--- what one assertion alone says
-alone : (assertion : BoundAssertion) → Meets image heads at_call behind (assertion ∷ []) → Met assertion
-alone assertion meets = All-head Met assertion [] meets
+met zero d less = tt
+met (suc zero) d less = met_at
+met (suc (suc zero)) d less = met_never
+met (suc (suc (suc zero))) d less = met_jump
+met (suc (suc (suc (suc zero)))) d less = met_call
+met (suc (suc (suc (suc (suc zero))))) d less = met_loop
+met (suc (suc (suc (suc (suc (suc zero)))))) d less = met_stub
+met (suc (suc (suc (suc (suc (suc (suc i))))))) d less = absurd (omega (arith, less))
 
 -- addresses that aren't listed
 not_listed : (a b : ℕ) → (a == b) ≡ false → Contains {X = ℕ} (a ∷ []) b → ⊥
@@ -247,14 +244,18 @@ breaks_stub keeps =
     let most : 4 ≤ 2 + 1 = h.spends in
     absurd (omega arith)
 
-abbrev Broken : BoundAssertion → Type 0
-Broken assertion = ¬ Meets image heads at_call behind (assertion ∷ [])
+any : BoundAssertion
+any = record { line = 0; body = body.Root 0 }
 
-breaks : All Broken broken
-breaks =
-    All-cons Broken _ _ (λ meets. breaks_at (alone _ meets)) (All-cons Broken _ _ (λ meets. breaks_never (alone _ meets))
-    (All-cons Broken _ _ (λ meets. breaks_jump (alone _ meets)) (All-cons Broken _ _ (λ meets. breaks_call (alone _ meets))
-    (All-cons Broken _ _ (λ meets. breaks_loop (alone _ meets)) (All-cons Broken _ _ (λ meets. breaks_stub (alone _ meets)) (All-nil Broken))))))
+breaks : All (λ assertion. ¬ Meets image heads at_call behind (assertion ∷ [])) broken
+breaks zero d less = λ meets. breaks_at (meets 0 any (omega arith))
+breaks (suc zero) d less = λ meets. breaks_never (meets 0 any (omega arith))
+breaks (suc (suc zero)) d less = λ meets. breaks_jump (meets 0 any (omega arith))
+breaks (suc (suc (suc zero))) d less = λ meets. breaks_call (meets 0 any (omega arith))
+breaks (suc (suc (suc (suc zero)))) d less = λ meets. breaks_loop (meets 0 any (omega arith))
+breaks (suc (suc (suc (suc (suc zero))))) d less = λ meets. breaks_stub (meets 0 any (omega arith))
+breaks (suc (suc (suc (suc (suc (suc i)))))) d less = absurd (omega (arith, less))
 
+-- it meets the one list and breaks the other
 pub meet_and_break : RunsMeetAndBreak
 meet_and_break = record { met = met; broken = breaks }

@@ -1,13 +1,14 @@
 -- What a step costs: the class of its instruction, one that it annuls, and what is owed to the step before.
-use Rattle.std.specs.Prelude.{◌==◌, ◌≡◌, ℕ, ◌+◌, ◌%◌, ◌^◌, Bool, false, ◌&&◌, ◌||◌, if◌then◌else◌, List, Option, Some, None}
+use Rattle.std.specs.Prelude.{◌==◌, ◌≡◌, ℕ, ◌+◌, ◌%◌, ◌^◌, ◌≤◌, Bool, false, ◌&&◌, ◌||◌, if◌then◌else◌, List, Option, Some, None}
 use Rattle.cycle_table.specs.Class.{cost_at}
 use Rattle.cycle_table.specs.Cycles.{pair_of}
 use Rattle.sparc_decode.specs.CostClass.{class_of}
+use Rattle.sparc_decode.specs.Register.{mask_of, registers_loaded}
 use Rattle.sparc_decode.specs.declared.cost_class.CostClass.TheVariants.{Annulled}
 use Rattle.sparc_decode.specs.declared.instruction.Instr.{Instr}
 use Rattle.sparc_decode.specs.declared.instruction.Instr.TheVariants.{Branch, FloatBranch}
 use Rattle.sparc_machine.specs.Frame.{StepsTo}
-use Rattle.sparc_machine.specs.Straight.{code_instruction}
+use Rattle.sparc_machine.specs.Straight.{code_instruction, all_registers}
 use Rattle.sparc_machine.specs.declared.machine.Machine.{Machine}
 
 -- the cost of an instruction's class; of no code it is 0
@@ -45,3 +46,13 @@ pub record IsCost (owes : Machine → ℕ) (image costs : List ℕ) (m next : Ma
 -- so it is of each step, whose pair with the step before it is owed
 abbrev pub StepsCost : Type 0
 StepsCost = (image costs : List ℕ) (m next : Machine) → StepsTo image costs m next → IsCost (owed image costs) image costs m next
+
+-- what a step leaves as loaded is what its instruction loads, so that the next one is owed the pair of the two
+abbrev pub StepsLoad : Type 0
+StepsLoad =
+    (image cycles : List ℕ) (m next : Machine) (i : Instr) → StepsTo image cycles m next → code_instruction image m.pc ≡ Some i
+    → next.loaded ≡ mask_of (registers_loaded i)
+
+-- behind a load of all registers an instruction is owed the most
+abbrev pub AllAreOwedMost : Type 0
+AllAreOwedMost = (costs : List ℕ) (loaded : ℕ) (instruction : Option Instr) → pair_cost costs loaded instruction ≤ pair_cost costs all_registers instruction

@@ -1,5 +1,5 @@
 -- What it means that a run meets assertions, of every kind.
-use Rattle.std.specs.Prelude.{◌≡◌, ℕ, suc, ◌<◌, ◌≤◌, Bool, true, false, ◌&&◌, nat_lt, if◌then◌else◌, List, [], ◌∷◌, ◌++◌, length, map, Option, Some, None, All}
+use Rattle.std.specs.Prelude.{◌≡◌, ℕ, suc, ◌<◌, ◌≤◌, Bool, true, nat_lt, if◌then◌else◌, List, ◌∷◌, ◌++◌, length, map, Option, Some, None, All}
 use Rattle.assert_bind.specs.Sight.{Sight, IsMetBy, MeetsEach}
 use Rattle.assert_bind.specs.declared.body.BoundAssertion.{BoundAssertion}
 use Rattle.assert_bind.specs.declared.body.BoundBody.{BoundBody}
@@ -9,7 +9,7 @@ use Rattle.graph_laws.specs.Walk.{AreInside, passes}
 use Rattle.sparc_decode.specs.declared.instruction.Instr.{Instr}
 use Rattle.sparc_decode.specs.declared.instruction.Instr.TheVariants.{Jmpl}
 use Rattle.sparc_machine.specs.Effect.{address_in}
-use Rattle.sparc_machine.specs.Frame.{Frame, Transfer, Returns, RunsFrom, StepsTo, machine_at, due_at, frames_at}
+use Rattle.sparc_machine.specs.Frame.{Frame, Transfer, Returns, StepsTo, machine_at, due_at, frames_at}
 use Rattle.sparc_machine.specs.Machine.{register_of}
 use Rattle.sparc_machine.specs.Straight.{code_instruction}
 use Rattle.sparc_machine.specs.declared.machine.Machine.{Machine}

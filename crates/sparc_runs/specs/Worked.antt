@@ -1,6 +1,6 @@
 -- A worked run: a call by a register of a subprogram that returns at once, and behind it a loop of two instructions, twice
 -- begun. Assertions that it meets, and assertions that it breaks, one of each kind.
-use Rattle.std.specs.Prelude.{◌≡◌, ◌≢◌, ℕ, ◌+◌, ◌*◌, ◌==◌, ◌&&◌, nat_le, pos, neg_ℤ, true, false, List, [], ◌∷◌, ◌++◌, length, replicate, slice_set, None, All}
+use Rattle.std.specs.Prelude.{◌≡◌, ◌≢◌, ℕ, ◌==◌, ◌&&◌, nat_le, pos, neg_ℤ, false, List, [], ◌∷◌, ◌++◌, replicate, slice_set, None, All}
 use Rattle.assert_bind.specs.declared.body.BoundAssertion.{BoundAssertion}
 use Rattle.assert_bind.specs.declared.body.BoundBody.TheVariants as body
 use Rattle.sparc_decode.specs.declared.instruction.Instr.TheVariants.{Jmpl}

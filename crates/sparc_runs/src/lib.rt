@@ -14,8 +14,9 @@ pub use run_laws::{
     steps_keep_running, stubs_keep_frames_below, targets_are_taken,
 };
 pub use step_laws::{
-    depths_are_windows, differences_are_meant, levels_are_below_seven, levels_move,
-    logic_is_difference, operands_are_words, returns_lead_back, shifts_divide, steps_cost,
-    steps_go, steps_keep_machines, steps_write_only, sums_are_meant, windows_stay_in_use,
+    all_are_owed_most, depths_are_windows, differences_are_meant, levels_are_below_seven,
+    levels_move, logic_is_difference, operands_are_words, returns_lead_back, shifts_divide,
+    steps_cost, steps_go, steps_keep_machines, steps_load, steps_write_only, sums_are_meant,
+    windows_stay_in_use,
 };
 pub use worked_runs::{worked_run_has_frames, worked_run_is_a_run, worked_run_meets_and_breaks};

@@ -1,6 +1,6 @@
 //! What each step keeps, writes and costs, and what its numbers mean: each law is the contract of a function that does
 //! nothing.
-ghost use Rattle.sparc_runs.specs.Cost.{StepsCost};
+ghost use Rattle.sparc_runs.specs.Cost.{AllAreOwedMost, StepsCost, StepsLoad};
 ghost use Rattle.sparc_runs.specs.Going.{StepsGo, ReturnsLeadBack};
 ghost use Rattle.sparc_runs.specs.Numbers.{ShiftsDivide, SumsAreMeant, DifferencesAreMeant, LogicIsDifference};
 ghost use Rattle.sparc_runs.specs.Sound.{OperandsAreWords, StepsKeepMachines};
@@ -26,6 +26,16 @@ pub fn operands_are_words()
 /// A step costs, in cycles, what it is owed behind a load, the class of its instruction, and one that it annuls.
 pub fn steps_cost()
     ensures { StepsCost }
+{}
+
+/// What a step leaves as loaded is what its instruction loads.
+pub fn steps_load()
+    ensures { StepsLoad }
+{}
+
+/// Behind a load of all registers an instruction is owed the most.
+pub fn all_are_owed_most()
+    ensures { AllAreOwedMost }
 {}
 
 /// Where each step goes on to: a call and a jump to their targets behind their delay instructions, a branch by its
