@@ -1,17 +1,17 @@
 -- What an operation comes to, as a function: it is what the relation says, and covers and falls with it.
-use Rattle.std.proofs.Common.{◌≡◌, ℕ, ◌^◌, ◌<◌, ◌≤◌, Bool, true, false, List, [], ◌∷◌, length, get_or, Option, Some, None, MatchOption, refl, sym, ap}
-use Rattle.std.proofs.Common.{subst, ◌∙◌, arith, All, Contains}
+use Rattle.std.proofs.Common.{◌≡◌, ℕ, ◌^◌, ◌<◌, ◌≤◌, Bool, true, false, List, get_or, Option, Some, None, MatchOption, refl, ap}
+use Rattle.std.proofs.Common.{subst, ◌∙◌, arith, Contains}
 use Rattle.std.proofs.lemmas.List.Elements.{All-contains, Contains-get_or}
-use Rattle.value_lattice.specs.Ends.{AreEnds, low_end, high_end}
+use Rattle.value_lattice.specs.Ends.{AreEnds}
 use Rattle.value_lattice.specs.Laws.{AreMore}
-use Rattle.value_lattice.specs.Least.{cover, span}
-use Rattle.value_lattice.specs.Test.{is_over, is_at_most, AreOrdered}
+use Rattle.value_lattice.specs.Least.{cover}
+use Rattle.value_lattice.specs.Test.{is_over, is_at_most}
 use Rattle.value_lattice.specs.Thresholds.{IsThresholds}
 use Rattle.value_lattice.specs.Value.{Has, IsValue, IsOver, IsLeast, IsBetween, one_of}
 use Rattle.value_lattice.specs.declared.value.Value.{Value}
 use Rattle.value_lattice.specs.declared.value.Value.TheVariants.{Words, Range, Ret}
 use Rattle.value_lattice.proofs.FunctionLemmas.{least_value_is_one, cover_is_least, span_is_least}
-use Rattle.value_lattice.proofs.LeastLemmas.{ends_exist, low_fits, high_fits, value_ends}
+use Rattle.value_lattice.proofs.LeastLemmas.{ends_exist, high_fits, value_ends}
 use Rattle.value_lattice.proofs.MayLemmas.{HasOne, some_word_of}
 use Rattle.value_lattice.proofs.TestLemmas.{over_decides, ordered, at_most_from}
 use Rattle.value_ops.specs.Operation.{result_of, carried_of, copied_of, IsPointwise, IsSpanned, IsComputed, IsStep, IsTwice, IsApplied, results, ends_of}
@@ -21,7 +21,7 @@ use Rattle.value_ops.specs.declared.op.Op.{Op}
 use Rattle.value_ops.specs.declared.rows.Span.{Span}
 use Rattle.value_ops.proofs.OperationLemmas.{result_is_word, one_word, row_covers, in_span, ends_filled, step_over, carry_over, applied_covers}
 use Rattle.value_ops.proofs.OperationLemmas.{applied_is_monotone}
-use Rattle.value_ops.proofs.PointwiseLemmas.{pointwise_is_least, pairs_are_results, some_result}
+use Rattle.value_ops.proofs.PointwiseLemmas.{pointwise_is_least, pairs_are_results}
 use Rattle.value_ops.proofs.RowLemmas.{IsIn}
 
 -- the row of two values has a word

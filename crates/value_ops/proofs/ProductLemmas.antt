@@ -1,7 +1,7 @@
 -- Products of the numbers at places: those between the ends of two spans are between the products of the ends.
 use Rattle.std.proofs.Common.{◌≡◌, ℕ, ◌+◌, ◌-◌, ◌*◌, ◌%◌, ◌^◌, ◌<◌, ◌≤◌, ◌&&◌, true, cond, min, max, sym, subst, inl, inr, arith, nat_le, nat_lt}
 use Rattle.std.proofs.Math.Nat.{add-mul, mul-add, mul_comm}
-use Rattle.std.proofs.lemmas.Bool.{and_parts, and_from, leb-true, ltb-true, le-leb, lt-ltb, cases_lt, cond_both, cond-true}
+use Rattle.std.proofs.lemmas.Bool.{and_parts, and_from, leb-true, ltb-true, le-leb, lt-ltb, cases_lt, cond_both}
 use Rattle.std.proofs.lemmas.Nat.{mul-le}
 use Rattle.value_lattice.specs.Order.{place_of}
 use Rattle.value_ops.specs.Row.{IsFilled, all, product_key, least_product, greatest_product, products}
