@@ -15,28 +15,33 @@ use Rattle.value_lattice.proofs.SetLemmas.{place_of-word_at, word_at_below, plac
 pub set_in_set : (xs ys : List ℕ) → IsSet xs → All (Contains ys) xs ↔ AtMost (Words xs) (Words ys)
 set_in_set xs ys set = (
   λ all. record { words = λ w ra word address has. All-contains (Contains ys) xs w all has },
-  λ at_most. All-weaker (Contains xs) (Contains ys) (λ w has. at_most.words w 0 (All-contains (λ w. w < 2 ^ 32) xs w set.fits has) (omega arith) has) xs (All-contains_itself xs),
+  λ at_most. All-weaker (Contains xs) (Contains ys) (λ w has. at_most.words w 0 (All-contains (λ w. w < 2 ^ 32) xs w set.fits has) (omega arith) has) xs
+      (All-contains_itself xs),
 )
 
 pub set_in_range : (xs : List ℕ) (lo hi : ℤ) → IsSet xs → All (IsBetween (rank_of lo) (rank_of hi)) xs ↔ AtMost (Words xs) (Range lo hi)
 set_in_range xs lo hi set = (
   λ all. record { words = λ w ra word address has. All-contains (IsBetween (rank_of lo) (rank_of hi)) xs w all has },
-  λ at_most. All-weaker (Contains xs) (IsBetween (rank_of lo) (rank_of hi)) (λ w has. at_most.words w 0 (All-contains (λ w. w < 2 ^ 32) xs w set.fits has) (omega arith) has) xs (All-contains_itself xs),
+  λ at_most. All-weaker (Contains xs) (IsBetween (rank_of lo) (rank_of hi))
+      (λ w has. at_most.words w 0 (All-contains (λ w. w < 2 ^ 32) xs w set.fits has) (omega arith) has) xs (All-contains_itself xs),
 )
 
 -- what has all words between two places that are far apart is a range
-pub between_in_range : (low high : ℕ) (lo hi : ℤ) → low ≤ high → high < 2 ^ 32 → ((rank_of lo ≤ low) × (high ≤ rank_of hi)) ↔ HasEach (IsBetween low high) (Range lo hi)
-between_in_range low high lo hi up fits = (λ ends. record { words = λ w ra word address between. (omega (arith, ends, between), omega (arith, ends, between)) }, back) where
-  back : HasEach (IsBetween low high) (Range lo hi) → (rank_of lo ≤ low) × (high ≤ rank_of hi)
-  back each =
-      let at_low : place_of (word_at low) ≡ low = place_of-word_at low (omega arith) in
-      let at_high : place_of (word_at high) ≡ high = place_of-word_at high fits in
-      let below : Has (Range lo hi) (word_at low) 0 = each.words (word_at low) 0 (word_at_below low) (omega arith) (omega arith, omega arith) in
-      let above : Has (Range lo hi) (word_at high) 0 = each.words (word_at high) 0 (word_at_below high) (omega arith) (omega arith, omega arith) in
-      (omega arith, omega arith)
+pub between_in_range : (low high : ℕ) (lo hi : ℤ) → low ≤ high → high < 2 ^ 32
+    → ((rank_of lo ≤ low) × (high ≤ rank_of hi)) ↔ HasEach (IsBetween low high) (Range lo hi)
+between_in_range low high lo hi up fits =
+    (λ ends. record { words = λ w ra word address between. (omega (arith, ends, between), omega (arith, ends, between)) }, back) where
+      back : HasEach (IsBetween low high) (Range lo hi) → (rank_of lo ≤ low) × (high ≤ rank_of hi)
+      back each =
+          let at_low : place_of (word_at low) ≡ low = place_of-word_at low (omega arith) in
+          let at_high : place_of (word_at high) ≡ high = place_of-word_at high fits in
+          let below : Has (Range lo hi) (word_at low) 0 = each.words (word_at low) 0 (word_at_below low) (omega arith) (omega arith, omega arith) in
+          let above : Has (Range lo hi) (word_at high) 0 = each.words (word_at high) 0 (word_at_below high) (omega arith) (omega arith, omega arith) in
+          (omega arith, omega arith)
 
 pub no_between_in_set : (low high : ℕ) (words : List ℕ) → IsSet words → low + 128 ≤ high → high < 2 ^ 32 → HasEach (IsBetween low high) (Words words) → ⊥
-no_between_in_set low high words set far fits each = omega (arith, set.few, between_is_long words low high far fits (λ w word between. each.words w 0 word (omega arith) between))
+no_between_in_set low high words set far fits each = omega
+    (arith, set.few, between_is_long words low high far fits (λ w word between. each.words w 0 word (omega arith) between))
 
 pub no_between_in_ret : (low high : ℕ) → low ≤ high → high < 2 ^ 32 → HasEach (IsBetween low high) Ret → ⊥
 no_between_in_ret low high up fits each =
@@ -52,7 +57,10 @@ range_in lo hi v = (λ each. record { words = each.words }, λ at_most. record {
 -- the return address is in the range that has all words
 pub ret_in_range : (lo hi : ℤ) → HasEach (IsBetween 0 4294967295) (Range lo hi) ↔ AtMost Ret (Range lo hi)
 ret_in_range lo hi = (
-  λ each. record { words = λ w ra word address is. let below : place_of w < 2 ^ 32 = place_of_below w in each.words w ra word address (omega arith, omega arith) },
+  λ each. record {
+    words = λ w ra word address is. let below : place_of w < 2 ^ 32 = place_of_below w in each.words w ra word address
+        (omega arith, omega arith);
+  },
   λ at_most. record { words = λ w ra word address between. at_most.words w w word word refl },
 )
 
@@ -65,7 +73,8 @@ pub iff_never : {P : Type 0} → (P → ⊥) → IsTrue false ↔ P
 iff_never never = (λ no. absurd (false≢true no), λ p. absurd (never p))
 
 -- one word more of a list stands in another
-pub among_more : (xs ys : List ℕ) (i : ℕ) → i < length xs → ((k d : ℕ) → k < i → Contains ys (get_or xs k d)) → Contains ys (get_or xs i 0) → (k d : ℕ) → k < i + 1 → Contains ys (get_or xs k d)
+pub among_more : (xs ys : List ℕ) (i : ℕ) → i < length xs → ((k d : ℕ) → k < i → Contains ys (get_or xs k d)) → Contains ys (get_or xs i 0) → (k d : ℕ)
+    → k < i + 1 → Contains ys (get_or xs k d)
 among_more xs ys i within before here k d below =
     elim (cases_lt k i) [
       | inl old ↦ before k d old

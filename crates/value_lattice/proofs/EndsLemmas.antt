@@ -18,14 +18,16 @@ pub record AreEndsOfFirst (words : List ℕ) (i low high : ℕ) : Type 0 where
 has_at : (words : List ℕ) (i : ℕ) → i < length words → get_or words i 0 < 2 ^ 32 → Contains words (word_at (place_of (get_or words i 0)))
 has_at words i within fits = subst (Contains words) (sym (word_at-place_of (get_or words i 0) fits)) (Contains-get_or words i 0 within)
 
-pub ends_none : (words : List ℕ) → 0 < length words → get_or words 0 0 < 2 ^ 32 → AreEndsOfFirst words 0 (place_of (get_or words 0 0)) (place_of (get_or words 0 0))
+pub ends_none : (words : List ℕ) → 0 < length words → get_or words 0 0 < 2 ^ 32
+    → AreEndsOfFirst words 0 (place_of (get_or words 0 0)) (place_of (get_or words 0 0))
 ends_none words some fits = record {
   between = λ k below. absurd (omega arith);
   least = has_at words 0 some fits;
   greatest = has_at words 0 some fits;
 }
 
-pub ends_more : (words : List ℕ) (i low high : ℕ) → i < length words → get_or words i 0 < 2 ^ 32 → AreEndsOfFirst words i low high → AreEndsOfFirst words (i + 1) (min low (place_of (get_or words i 0))) (max high (place_of (get_or words i 0)))
+pub ends_more : (words : List ℕ) (i low high : ℕ) → i < length words → get_or words i 0 < 2 ^ 32 → AreEndsOfFirst words i low high
+    → AreEndsOfFirst words (i + 1) (min low (place_of (get_or words i 0))) (max high (place_of (get_or words i 0)))
 ends_more words i low high within fits so_far = record {
   between = λ k below.
       elim (cases_lt k i) [

@@ -33,21 +33,27 @@ set_rises xs ys a b below =
     elim (cases_lt (length xs) (length ys)) [
       | inl longer ↦ longer
       | inr short ↦
-          let in_ys : (w : ℕ) → Contains xs w → Contains ys w = λ w has. below.up.words w 0 (All-contains (λ w. w < 2 ^ 32) xs w a.fits has) (omega arith) has in
+          let in_ys : (w : ℕ) → Contains xs w
+          → Contains ys w = λ w has. below.up.words w 0 (All-contains (λ w. w < 2 ^ 32) xs w a.fits has) (omega arith) has in
           absurd (below.apart (record { words = λ w ra word address has. rising_in_part xs ys a.rising in_ys short w has }))
     ]
 
 -- a range has more thresholds than a part of it
-range_rises : (t : List ℕ) (lo hi first last : ℤ) → IsOver t (Range lo hi) → IsOver t (Range first last) → IsBelow (Range lo hi) (Range first last) → count_by (is_between (rank_of lo) (rank_of hi)) t < count_by (is_between (rank_of first) (rank_of last)) t
+range_rises : (t : List ℕ) (lo hi first last : ℤ) → IsOver t (Range lo hi) → IsOver t (Range first last) → IsBelow (Range lo hi) (Range first last)
+    → count_by (is_between (rank_of lo) (rank_of hi)) t < count_by (is_between (rank_of first) (rank_of last)) t
 range_rises t lo hi first last a b below =
     let inside : (rank_of first ≤ rank_of lo) × (rank_of hi ≤ rank_of last) = range_in_range lo hi first last a.value below.up in
     let wider = between_wider (rank_of lo) (rank_of hi) (rank_of first) (rank_of last) inside.0 inside.1 in
     let far : rank_of first + 128 ≤ rank_of last = b.value.2 in
     elim (cases_lt (rank_of first) (rank_of lo)) [
-      | inl lower ↦ count_by-lt (is_between (rank_of lo) (rank_of hi)) (is_between (rank_of first) (rank_of last)) wider t (rank_of first) b.ends.0 (between_below (rank_of lo) (rank_of hi) (rank_of first) lower) (between_yes (rank_of first) (rank_of last) (rank_of first) (omega arith) (omega arith))
+      | inl lower ↦ count_by-lt (is_between (rank_of lo) (rank_of hi)) (is_between (rank_of first) (rank_of last)) wider t (rank_of first) b.ends.0
+          (between_below (rank_of lo) (rank_of hi) (rank_of first) lower)
+          (between_yes (rank_of first) (rank_of last) (rank_of first) (omega arith) (omega arith))
       | inr same_low ↦
           elim (cases_lt (rank_of hi) (rank_of last)) [
-            | inl higher ↦ count_by-lt (is_between (rank_of lo) (rank_of hi)) (is_between (rank_of first) (rank_of last)) wider t (rank_of last) b.ends.1 (between_above (rank_of lo) (rank_of hi) (rank_of last) higher) (between_yes (rank_of first) (rank_of last) (rank_of last) (omega arith) (omega arith))
+            | inl higher ↦ count_by-lt (is_between (rank_of lo) (rank_of hi)) (is_between (rank_of first) (rank_of last)) wider t (rank_of last) b.ends.1
+                (between_above (rank_of lo) (rank_of hi) (rank_of last) higher)
+                (between_yes (rank_of first) (rank_of last) (rank_of last) (omega arith) (omega arith))
             | inr same_high ↦ absurd (below.apart (record { words = λ w ra word address has. (omega arith, omega arith) }))
           ]
     ]
@@ -58,7 +64,8 @@ range_counts t lo hi over =
     let far : rank_of lo + 128 ≤ rank_of hi = over.value.2 in
     let none : (k : ℕ) → false ≡ true → is_between (rank_of lo) (rank_of hi) k ≡ true = λ k no. cc in
     let more : count_by (λ (k : ℕ). false) t < count_by (is_between (rank_of lo) (rank_of hi)) t =
-    count_by-lt (λ k. false) (is_between (rank_of lo) (rank_of hi)) none t (rank_of lo) over.ends.0 refl (between_yes (rank_of lo) (rank_of hi) (rank_of lo) (omega arith) (omega arith)) in
+    count_by-lt (λ k. false) (is_between (rank_of lo) (rank_of hi)) none t (rank_of lo) over.ends.0 refl
+    (between_yes (rank_of lo) (rank_of hi) (rank_of lo) (omega arith) (omega arith)) in
     omega (arith, more)
 
 pub rise : (t : List ℕ) (a b : Value) → IsOver t a → IsOver t b → IsBelow a b → height t a < height t b

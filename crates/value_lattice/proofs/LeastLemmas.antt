@@ -1,10 +1,11 @@
 -- The least value of the words that a test passes: it is there, and it is one.
-use Rattle.std.proofs.Common.{◌≡◌, ℕ, zero, suc, ◌-◌, ◌^◌, ◌<◌, ◌≤◌, ◌⊎◌, Bool, true, eqb, List, [], ◌∷◌, length, min, max, Option, Some, None, refl, sym, ap, subst, ◌∙◌, inl, inr, ⊎_elim, arith, All, Contains, nat_le}
+use Rattle.std.proofs.Common.{◌≡◌, ℕ, zero, suc, ◌-◌, ◌^◌, ◌<◌, ◌≤◌, ◌⊎◌, true, List, [], ◌∷◌, length, min, max, refl, sym}
+use Rattle.std.proofs.Common.{subst, inl, inr, ⊎_elim, arith, All, Contains, nat_le}
 use Rattle.std.proofs.lemmas.Bool.{cases_lt, cond_both, leb-true, leb-false}
 use Rattle.std.proofs.lemmas.List.Elements.{All-head, All-tail, All-contains}
 use Rattle.std.specs.Int.{w32}
 use Rattle.std.specs.List.Sorted.{IsStrictlyIncreasing}
-use Rattle.std.specs.Prelude.{ℤ, pos, negsuc, FitsSigned}
+use Rattle.std.specs.Prelude.{pos, negsuc, FitsSigned}
 use Rattle.value_lattice.specs.Ends.{AreEnds, AreEndsOf, least_place, greatest_place, low_end, high_end}
 use Rattle.value_lattice.specs.Least.{hull_of, value_of, least_of, LeastValuesExist}
 use Rattle.value_lattice.specs.Passing.{words_below}
@@ -16,7 +17,7 @@ use Rattle.value_lattice.specs.Value.{IsValue, IsLeast, IsLeastOrNone, IsBetween
 use Rattle.value_lattice.specs.declared.value.Value.{Value}
 use Rattle.value_lattice.specs.declared.value.Value.TheVariants.{Words, Range, Ret}
 use Rattle.value_lattice.proofs.MayLemmas.{least_or_none_of_same}
-use Rattle.value_lattice.proofs.SetLemmas.{place_of-word_at, word_at-place_of, word_at_below, place_of_below, long_is_wide}
+use Rattle.value_lattice.proofs.SetLemmas.{place_of-word_at, word_at-place_of, place_of_below, long_is_wide}
 use Rattle.value_lattice.proofs.ValueLemmas.{rank_below, range_is_least, set_is_least, hull_is_least}
 use Rattle.value_lattice.proofs.WordsBelowLemmas.{words_rise, words_fit, words_pass, passing_is_there}
 
@@ -53,7 +54,8 @@ down_take : (k : ℕ) (ks : List ℕ) (place rounded : ℕ) → k ≤ place → 
 down_take k ks place rounded low rest = record {
   has =
       elim (cases_lt k rounded) [
-        | inl below ↦ let same : max k rounded ≡ rounded = omega arith in rw same (⊎_elim (λ there. inl (in_tail k ks rounded there)) (λ none. inr none) rest.has)
+        | inl below ↦ let same : max k rounded ≡ rounded = omega arith in rw same
+            (⊎_elim (λ there. inl (in_tail k ks rounded there)) (λ none. inr none) rest.has)
         | inr above ↦ let same : max k rounded ≡ k = omega arith in rw same (inl (at_head k ks))
       ];
   outward = omega (arith, low, rest.outward);
@@ -93,7 +95,8 @@ up_take k ks place rounded high rest = record {
   has =
       elim (cases_lt k rounded) [
         | inl below ↦ let same : min k rounded ≡ k = omega arith in rw same (inl (at_head k ks))
-        | inr above ↦ let same : min k rounded ≡ rounded = omega arith in rw same (⊎_elim (λ there. inl (in_tail k ks rounded there)) (λ none. inr none) rest.has)
+        | inr above ↦ let same : min k rounded ≡ rounded = omega arith in rw same
+            (⊎_elim (λ there. inl (in_tail k ks rounded there)) (λ none. inr none) rest.has)
       ];
   outward = omega (arith, high, rest.outward);
   nearest = λ q has high_q. ⊎_elim (λ same. omega (arith, same)) (λ there. omega (arith, rest.nearest q there high_q)) (head_or_tail k ks q has);
@@ -126,7 +129,8 @@ rounds_up t place is fits =
 
 end_of_one : (w : ℕ) → w < 2 ^ 32 → AreEndsOf (w ∷ []) (place_of w) (place_of w)
 end_of_one w fits = record {
-  between = λ u has. ⊎_elim (λ same. subst (IsBetween (place_of w) (place_of w)) (sym same) (omega arith, omega arith)) (λ there. absurd (omega (arith, there.1))) (head_or_tail w [] u has);
+  between = λ u has. ⊎_elim (λ same. subst (IsBetween (place_of w) (place_of w)) (sym same) (omega arith, omega arith))
+      (λ there. absurd (omega (arith, there.1))) (head_or_tail w [] u has);
   least = subst (Contains (w ∷ [])) (sym (word_at-place_of w fits)) (at_head w []);
   greatest = subst (Contains (w ∷ [])) (sym (word_at-place_of w fits)) (at_head w []);
 }
@@ -154,9 +158,11 @@ ends_of_words w [] fit =
     let below : place_of w < 2 ^ 32 = place_of_below w in
     let low : min (place_of w) 4294967295 ≡ place_of w = omega arith in
     let high : max (place_of w) 0 ≡ place_of w = omega arith in
-    subst (λ (k : ℕ). AreEndsOf (w ∷ []) (least_place (w ∷ [])) k) (sym high) (subst (λ (k : ℕ). AreEndsOf (w ∷ []) k (place_of w)) (sym low) (end_of_one w word))
+    subst (λ (k : ℕ). AreEndsOf (w ∷ []) (least_place (w ∷ [])) k) (sym high)
+    (subst (λ (k : ℕ). AreEndsOf (w ∷ []) k (place_of w)) (sym low) (end_of_one w word))
 ends_of_words w (v ∷ vs) fit =
-    end_of_more w (v ∷ vs) (least_place (v ∷ vs)) (greatest_place (v ∷ vs)) (All-head (λ v. v < 2 ^ 32) w (v ∷ vs) fit) (ends_of_words v vs (All-tail (λ v. v < 2 ^ 32) w (v ∷ vs) fit))
+    end_of_more w (v ∷ vs) (least_place (v ∷ vs)) (greatest_place (v ∷ vs)) (All-head (λ v. v < 2 ^ 32) w (v ∷ vs) fit)
+    (ends_of_words v vs (All-tail (λ v. v < 2 ^ 32) w (v ∷ vs) fit))
 
 greatest_fits : (words : List ℕ) → greatest_place words < 2 ^ 32
 greatest_fits [] = omega arith
@@ -171,7 +177,8 @@ least_fits (w ∷ ws) = omega (arith, least_fits ws)
 threshold_fits : (t : List ℕ) (k : ℕ) → IsThresholds t → Contains t k → k < 2 ^ 32
 threshold_fits t k is has = All-contains (λ v. v < 2 ^ 32) t k is.places has
 
-hull_is : (t : List ℕ) (w : ℕ) (ws : List ℕ) → IsThresholds t → IsStrictlyIncreasing (w ∷ ws) → All (λ v. v < 2 ^ 32) (w ∷ ws) → 128 < length (w ∷ ws) → IsLeast t (Contains (w ∷ ws)) (hull_of t (w ∷ ws))
+hull_is : (t : List ℕ) (w : ℕ) (ws : List ℕ) → IsThresholds t → IsStrictlyIncreasing (w ∷ ws) → All (λ v. v < 2 ^ 32) (w ∷ ws) → 128 < length (w ∷ ws)
+    → IsLeast t (Contains (w ∷ ws)) (hull_of t (w ∷ ws))
 hull_is t w ws is rises fits many =
     let low : ℕ = least_place (w ∷ ws) in
     let high : ℕ = greatest_place (w ∷ ws) in
@@ -183,11 +190,14 @@ hull_is t w ws is rises fits many =
     let down_fits : round_down t low < 2 ^ 32 = omega (arith, down.outward) in
     let up_fits : round_up t high < 2 ^ 32 = threshold_fits t (round_up t high) is up.threshold in
     hull_is_least t (w ∷ ws) low high (hull_of t (w ∷ ws)) rises fits many ends.between low_fits high_fits ends.least ends.greatest
-    (range_is_least t low high (number_at (round_down t low)) (number_at (round_up t high)) (long_is_wide (w ∷ ws) low high rises fits many ends.between) high_fits
+    (range_is_least t low high (number_at (round_down t low)) (number_at (round_up t high)) (long_is_wide (w ∷ ws) low high rises fits many ends.between)
+    high_fits
     (number_fits (round_down t low) down_fits) (number_fits (round_up t high) up_fits)
-    (subst (IsRoundedDown t low) (sym (rank_of-number_at (round_down t low) down_fits)) down) (subst (IsRoundedUp t high) (sym (rank_of-number_at (round_up t high) up_fits)) up))
+    (subst (IsRoundedDown t low) (sym (rank_of-number_at (round_down t low) down_fits)) down)
+    (subst (IsRoundedUp t high) (sym (rank_of-number_at (round_up t high) up_fits)) up))
 
-value_is_least : (t words : List ℕ) → IsThresholds t → IsStrictlyIncreasing words → All (λ v. v < 2 ^ 32) words → IsLeastOrNone t (Contains words) (value_of t words)
+value_is_least : (t words : List ℕ) → IsThresholds t → IsStrictlyIncreasing words → All (λ v. v < 2 ^ 32) words
+    → IsLeastOrNone t (Contains words) (value_of t words)
 value_is_least t [] is rises fits = λ w word has. omega (arith, has.1)
 value_is_least t (w ∷ ws) is rises fits =
     cond_both (nat_le (length (w ∷ ws)) 128) (Words (w ∷ ws)) (hull_of t (w ∷ ws)) (IsLeast t (Contains (w ∷ ws)))
@@ -198,7 +208,8 @@ value_is_least t (w ∷ ws) is rises fits =
 pub least_exists : LeastValuesExist
 unfolding least_of
 least_exists t test is =
-    least_or_none_of_same t (Contains (words_below (2 ^ 32) test)) (λ w. test w ≡ true) (value_of t (words_below (2 ^ 32) test)) (λ w word has. words_pass (2 ^ 32) test w has) (λ w word passes. passing_is_there (2 ^ 32) test w word passes)
+    least_or_none_of_same t (Contains (words_below (2 ^ 32) test)) (λ w. test w ≡ true) (value_of t (words_below (2 ^ 32) test))
+    (λ w word has. words_pass (2 ^ 32) test w has) (λ w word passes. passing_is_there (2 ^ 32) test w word passes)
     (value_is_least t (words_below (2 ^ 32) test) is (words_rise (2 ^ 32) test) (words_fit (2 ^ 32) test))
 
 -- the ends of a value
@@ -210,7 +221,8 @@ ends_exist (Range lo hi) value = (refl, refl)
 ends_exist Ret value = (refl, refl)
 
 -- ends are one
-pub ends_are_one : (words : List ℕ) (low high least greatest : ℕ) → AreEndsOf words low high → AreEndsOf words least greatest → low < 2 ^ 32 → high < 2 ^ 32 → least < 2 ^ 32 → greatest < 2 ^ 32 → (low ≡ least) × (high ≡ greatest)
+pub ends_are_one : (words : List ℕ) (low high least greatest : ℕ) → AreEndsOf words low high → AreEndsOf words least greatest → low < 2 ^ 32 → high < 2 ^ 32
+    → least < 2 ^ 32 → greatest < 2 ^ 32 → (low ≡ least) × (high ≡ greatest)
 ends_are_one words low high least greatest one other low_fits high_fits least_fits greatest_fits =
     let at_low : place_of (word_at low) ≡ low = place_of-word_at low low_fits in
     let at_high : place_of (word_at high) ≡ high = place_of-word_at high high_fits in
@@ -234,9 +246,11 @@ high_fits (Words words) value = greatest_fits words
 high_fits (Range lo hi) value = rank_below hi value.1
 high_fits Ret value = omega arith
 
-pub set_ends : (words : List ℕ) (low high : ℕ) → IsSet words → AreEndsOf words low high → low < 2 ^ 32 → high < 2 ^ 32 → (low ≡ low_end (Words words)) × (high ≡ high_end (Words words))
+pub set_ends : (words : List ℕ) (low high : ℕ) → IsSet words → AreEndsOf words low high → low < 2 ^ 32 → high < 2 ^ 32
+    → (low ≡ low_end (Words words)) × (high ≡ high_end (Words words))
 set_ends words low high set ends fits_low fits_high =
-    ends_are_one words low high (low_end (Words words)) (high_end (Words words)) ends (ends_exist (Words words) set) fits_low fits_high (low_fits (Words words) set) (high_fits (Words words) set)
+    ends_are_one words low high (low_end (Words words)) (high_end (Words words)) ends (ends_exist (Words words) set) fits_low fits_high
+    (low_fits (Words words) set) (high_fits (Words words) set)
 
 -- the ends of a value are one
 pub value_ends : (v : Value) (low high : ℕ) → IsValue v → AreEnds v low high → low < 2 ^ 32 → high < 2 ^ 32 → (low ≡ low_end v) × (high ≡ high_end v)

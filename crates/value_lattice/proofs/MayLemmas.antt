@@ -1,5 +1,6 @@
 -- Words that values may have, and what is least of them.
-use Rattle.std.proofs.Common.{◌≡◌, ℕ, zero, suc, ◌^◌, ◌<◌, ◌≤◌, ◌+◌, ◌↔◌, Bool, true, false, List, [], ◌∷◌, length, get_or, Option, Some, None, refl, sym, ap, subst, ◌∙◌, arith, All, Contains}
+use Rattle.std.proofs.Common.{◌≡◌, ℕ, zero, suc, ◌^◌, ◌<◌, ◌≤◌, ◌+◌, ◌↔◌, true, List, [], ◌∷◌, get_or, Option, Some, None, refl, sym}
+use Rattle.std.proofs.Common.{ap, subst, ◌∙◌, arith, All, Contains}
 use Rattle.std.proofs.lemmas.Bool.{false≢true, eqb-true}
 use Rattle.std.proofs.lemmas.List.Elements.{All-contains, Contains-get_or}
 use Rattle.std.specs.List.Sorted.{IsStrictlyIncreasing}
@@ -11,7 +12,7 @@ use Rattle.value_lattice.specs.declared.value.Value.{Value}
 use Rattle.value_lattice.specs.declared.value.Value.TheVariants.{Words, Range, Ret}
 use Rattle.value_lattice.proofs.JoinLemmas.{no_ret_in_set}
 use Rattle.value_lattice.proofs.SetLemmas.{place_of-word_at, word_at_below}
-use Rattle.value_lattice.proofs.ValueLemmas.{least_of_same, least_is_monotone, no_range_in_set, over_more, rank_below, same_value}
+use Rattle.value_lattice.proofs.ValueLemmas.{least_of_same, least_is_monotone, no_range_in_set, rank_below, same_value}
 
 -- a value has each word that it may have where that word is the return address
 pub has_itself : (v : Value) (w : ℕ) → MayHave v w → Has v w w
@@ -30,7 +31,8 @@ pub may_have_more : (a b : Value) (w : ℕ) → w < 2 ^ 32 → AtMost a b → Ma
 may_have_more a b w word up may = record { address = may.address; fits = may.fits; has = up.words w may.address word may.fits may.has }
 
 -- where a kind has the same words, the same is least
-pub least_or_none_of_same : (t : List ℕ) (kind other : ℕ → Type 0) (r : Option Value) → ((w : ℕ) → w < 2 ^ 32 → kind w → other w) → ((w : ℕ) → w < 2 ^ 32 → other w → kind w) → IsLeastOrNone t kind r → IsLeastOrNone t other r
+pub least_or_none_of_same : (t : List ℕ) (kind other : ℕ → Type 0) (r : Option Value) → ((w : ℕ) → w < 2 ^ 32 → kind w → other w)
+    → ((w : ℕ) → w < 2 ^ 32 → other w → kind w) → IsLeastOrNone t kind r → IsLeastOrNone t other r
 least_or_none_of_same t kind other None there back none = λ w word is. none w word (back w word is)
 least_or_none_of_same t kind other (Some v) there back least = least_of_same t kind other v there back least
 
@@ -80,7 +82,8 @@ least_has_some t kind v none least =
     let one_is : one.word ≡ 1 = only_word 1 one.word ((below 1 (omega arith)).words one.word one.word one.fits one.fits one.has) in
     omega arith where
       below : (w : ℕ) → w < 2 ^ 32 → AtMost v (Words (w ∷ []))
-      below w word = least.least (Words (w ∷ [])) (record { value = one_set w word; ends = tt }) (record { words = λ x ra x_word address is. absurd (none x x_word is) })
+      below w word = least.least (Words (w ∷ [])) (record { value = one_set w word; ends = tt })
+          (record { words = λ x ra x_word address is. absurd (none x x_word is) })
 
 pub least_is_one : (t : List ℕ) (kind : ℕ → Type 0) (r s : Option Value) → IsLeastOrNone t kind r → IsLeastOrNone t kind s → r ≡ s
 least_is_one t kind None None none other = refl
@@ -89,10 +92,13 @@ least_is_one t kind (Some u) None least none = absurd (least_has_some t kind u n
 least_is_one t kind (Some u) (Some v) one other =
     ap (λ (x : Value). Some x) (same_value u v one.over.value other.over.value (one.least v other.over other.each) (other.least u one.over one.each))
 
-pub less_from_least : (t more : List ℕ) (kind wider : ℕ → Type 0) (r s : Option Value) → AreMore t more → ((w : ℕ) → w < 2 ^ 32 → kind w → wider w) → IsLeastOrNone t wider r → IsLeastOrNone more kind s → IsLess s r
+pub less_from_least : (t more : List ℕ) (kind wider : ℕ → Type 0) (r s : Option Value) → AreMore t more → ((w : ℕ) → w < 2 ^ 32 → kind w → wider w)
+    → IsLeastOrNone t wider r → IsLeastOrNone more kind s → IsLess s r
 less_from_least t more kind wider r None in_more in_wider wide narrow = tt
-less_from_least t more kind wider None (Some u) in_more in_wider wide narrow = absurd (least_has_some more kind u (λ w word is. wide w word (in_wider w word is)) narrow)
-less_from_least t more kind wider (Some v) (Some u) in_more in_wider wide narrow = least_is_monotone t more kind wider u v in_more.thresholds in_wider narrow wide
+less_from_least t more kind wider None (Some u) in_more in_wider wide narrow = absurd
+    (least_has_some more kind u (λ w word is. wide w word (in_wider w word is)) narrow)
+less_from_least t more kind wider (Some v)
+    (Some u) in_more in_wider wide narrow = least_is_monotone t more kind wider u v in_more.thresholds in_wider narrow wide
 
 -- what is left has each word that is possible
 pub covered_some : (t : List ℕ) (kind : ℕ → Type 0) (r : Option Value) (x ra : ℕ) → IsLeastOrNone t kind r → x < 2 ^ 32 → ra < 2 ^ 32 → kind x → HasSome r x ra
@@ -112,7 +118,8 @@ below_zero (Words words) value up =
     let first : Contains words (get_or words 0 0) = Contains-get_or words 0 0 value.some in
     let word : get_or words 0 0 < 2 ^ 32 = All-contains (λ w. w < 2 ^ 32) words (get_or words 0 0) value.fits first in
     let none : get_or words 0 0 ≡ 0 = only_word 0 (get_or words 0 0) (up.words (get_or words 0 0) 0 word (omega arith) first) in
-    same_value (Words words) (Words (0 ∷ [])) value (one_set 0 (omega arith)) up (record { words = λ w ra w_word address has. subst (Contains words) (none ∙ sym (only_word 0 w has)) first })
+    same_value (Words words) (Words (0 ∷ [])) value (one_set 0 (omega arith)) up
+    (record { words = λ w ra w_word address has. subst (Contains words) (none ∙ sym (only_word 0 w has)) first })
 below_zero (Range lo hi) value up = absurd (no_range_in_set lo hi (0 ∷ []) value (one_set 0 (omega arith)) up)
 below_zero Ret value up = absurd (no_ret_in_set (0 ∷ []) (one_set 0 (omega arith)) up)
 

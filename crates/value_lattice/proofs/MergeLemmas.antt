@@ -1,14 +1,12 @@
 -- The merge of two rising lists, one number at a time.
-use Rattle.std.proofs.Common.{◌≡◌, ℕ, ◌+◌, ◌-◌, ◌<◌, ◌≤◌, ◌⊎◌, List, [], ◌∷◌, ◌++◌, length, get_or, refl, sym, subst, ◌∙◌, inl, inr, arith, All, Contains, Result, Ok, Err, is_ok, true, nat_cmp, ◌↔◌}
-use Rattle.std.proofs.lemmas.List.{get_or_default}
-use Rattle.std.proofs.lemmas.List.Sorted.{searched}
-use Rattle.std.proofs.lemmas.Bool.{cases_lt, false≢true}
+use Rattle.std.proofs.Common.{◌≡◌, ℕ, ◌+◌, ◌-◌, ◌<◌, ◌≤◌, ◌⊎◌, List, [], ◌∷◌, ◌++◌, length, get_or, sym, subst, inl, inr, arith, All, Contains}
+use Rattle.std.proofs.lemmas.Bool.{cases_lt}
 use Rattle.std.proofs.lemmas.Grind.{common_steps}
 use Rattle.std.proofs.lemmas.List.Elements.{All-contains, All-push, All-nil, Contains-get_or, Contains-append_left, Contains-push}
 use Rattle.std.proofs.lemmas.List.Kept.{AllPairs-from_increasing}
-use Rattle.std.specs.List.Sorted.{IsStrictlyIncreasing, IsBinarySearchResult}
+use Rattle.std.specs.List.Sorted.{IsStrictlyIncreasing}
 use Rattle.value_lattice.specs.Merge.{IsStep, IsMerge}
-use Rattle.value_lattice.proofs.ThresholdLemmas.{gap, at_zero, non_decreasing}
+use Rattle.value_lattice.proofs.ThresholdLemmas.{at_zero}
 
 -- so many numbers of two lists are merged
 pub record IsMerging (xs ys : List ℕ) (i j : ℕ) (merged : List ℕ) : Type 0 where
@@ -58,7 +56,8 @@ pub record IsNext (xs ys : List ℕ) (i j number : ℕ) : Type 0 where
   pub one : ((i < length xs) × (get_or xs i 0 ≡ number)) ⊎ ((j < length ys) × (get_or ys j 0 ≡ number))
 
 -- what is merged is below what is taken
-all_below : (xs ys : List ℕ) (i j number : ℕ) (merged : List ℕ) → IsMerging xs ys i j merged → IsNext xs ys i j number → (k : ℕ) → k < length merged → get_or merged k 0 < number
+all_below : (xs ys : List ℕ) (i j number : ℕ) (merged : List ℕ) → IsMerging xs ys i j merged → IsNext xs ys i j number → (k : ℕ) → k < length merged
+    → get_or merged k 0 < number
 all_below xs ys i j number merged m next k within =
     elim next.one [
       | inl left ↦ omega (arith, m.left_below k i within (omega arith) left.0, left.1)
@@ -73,20 +72,24 @@ from_one xs ys i j number next =
     ]
 
 -- one side's share of the step
-side_below : (xs merged : List ℕ) (i number next : ℕ) → IsStrictlyIncreasing xs → IsStep xs i number next → ((k m : ℕ) → k < length merged → i ≤ m → m < length xs → get_or merged k 0 < get_or xs m 0) → (k m : ℕ) → k < length (merged ++ number ∷ []) → next ≤ m → m < length xs → get_or (merged ++ number ∷ []) k 0 < get_or xs m 0
+side_below : (xs merged : List ℕ) (i number next : ℕ) → IsStrictlyIncreasing xs → IsStep xs i number next
+    → ((k m : ℕ) → k < length merged → i ≤ m → m < length xs → get_or merged k 0 < get_or xs m 0) → (k m : ℕ) → k < length (merged ++ number ∷ []) → next ≤ m
+    → m < length xs → get_or (merged ++ number ∷ []) k 0 < get_or xs m 0
 side_below xs merged i number next rises step below k m within from inside =
     let above : number < get_or xs m 0 = left_above xs i number next m rises step from inside in
     let old : k < length merged → get_or merged k 0 < get_or xs m 0 = λ short. below k m short (omega (arith, step.forward)) inside in
     grind (arith, common_steps, above, old)
 
-side_has : (xs merged : List ℕ) (i number next : ℕ) → IsStep xs i number next → ((k : ℕ) → k < i → Contains merged (get_or xs k 0)) → (k : ℕ) → k < next → Contains (merged ++ number ∷ []) (get_or xs k 0)
+side_has : (xs merged : List ℕ) (i number next : ℕ) → IsStep xs i number next → ((k : ℕ) → k < i → Contains merged (get_or xs k 0)) → (k : ℕ) → k < next
+    → Contains (merged ++ number ∷ []) (get_or xs k 0)
 side_has xs merged i number next step has k below =
     elim (cases_lt k i) [
       | inl old ↦ Contains-append_left merged (number ∷ []) (get_or xs k 0) (has k old)
       | inr new ↦ subst (Contains (merged ++ number ∷ [])) (sym (step.taken k new below)) (Contains-push merged number)
     ]
 
-pub merging_more : (xs ys : List ℕ) (i j number i' j' : ℕ) (merged : List ℕ) → IsStrictlyIncreasing xs → IsStrictlyIncreasing ys → IsMerging xs ys i j merged → IsNext xs ys i j number → IsStep xs i number i' → IsStep ys j number j' → IsMerging xs ys i' j' (merged ++ number ∷ [])
+pub merging_more : (xs ys : List ℕ) (i j number i' j' : ℕ) (merged : List ℕ) → IsStrictlyIncreasing xs → IsStrictlyIncreasing ys → IsMerging xs ys i j merged
+    → IsNext xs ys i j number → IsStep xs i number i' → IsStep ys j number j' → IsMerging xs ys i' j' (merged ++ number ∷ [])
 merging_more xs ys i j number i' j' merged xs_rise ys_rise m next left right = record {
   left_within = left.within;
   right_within = right.within;
@@ -99,7 +102,8 @@ merging_more xs ys i j number i' j' merged xs_rise ys_rise m next left right = r
 }
 
 -- a step takes a number
-pub merging_nearer : (xs ys : List ℕ) (i j number i' j' : ℕ) → IsNext xs ys i j number → IsStep xs i number i' → IsStep ys j number j' → (length xs - i') + (length ys - j') < (length xs - i) + (length ys - j)
+pub merging_nearer : (xs ys : List ℕ) (i j number i' j' : ℕ) → IsNext xs ys i j number → IsStep xs i number i' → IsStep ys j number j'
+    → (length xs - i') + (length ys - j') < (length xs - i) + (length ys - j)
 merging_nearer xs ys i j number i' j' next left right =
     elim next.one [
       | inl here ↦
@@ -122,17 +126,3 @@ merging_all xs ys i j merged left right m = record {
   right = λ w has. subst (Contains merged) (at_zero ys w has) (m.has_right has.0 (omega (arith, has.1)));
   only = λ w has. All-contains (λ w. Contains xs w ⊎ Contains ys w) merged w m.only has;
 }
-
--- a binary search in a rising list finds what the list has, and nothing else
-pub search_decides : (xs : List ℕ) (x : ℕ) (r : Result ℕ ℕ) → IsStrictlyIncreasing xs → IsBinarySearchResult (λ y. nat_cmp y x) xs r → (is_ok r ≡ true) ↔ Contains xs x
-search_decides xs x (Ok i) rises result =
-    let at : (i < length xs) × (get_or xs i 0 ≡ x) = searched xs x (Ok i) result (non_decreasing xs rises) in
-    (λ yes. (i, at.0, get_or_default xs i x 0 at.0 ∙ at.1), λ has. refl)
-search_decides xs x (Err i) rises result =
-    let g = gap xs x i rises result in
-    let none : Contains xs x → ⊥ = λ has.
-    elim (cases_lt has.0 i) [
-      | inl early ↦ omega (arith, g.below has.0 early, at_zero xs x has)
-      | inr late ↦ omega (arith, g.above has.0 late has.1, at_zero xs x has)
-    ] in
-    (λ yes. absurd (false≢true yes), λ has. absurd (none has))

@@ -18,7 +18,8 @@ record IsLeastOf (t : List ℕ) (values : List Value) (v : Value) : Type 0 where
 least_of_joins : (t : List ℕ) (a v : Value) (bs : List Value) → All (IsOver t) (a ∷ bs) → JoinsTo t a bs v → IsLeastOf t (a ∷ bs) v
 least_of_joins t a v [] over is = record {
   over = subst (IsOver t) (sym is) (All-head (IsOver t) a [] over);
-  each = All-cons (λ x. AtMost x v) a [] (subst (λ (x : Value). AtMost a x) (sym is) (record { words = λ w ra word address has. has })) (All-nil (λ x. AtMost x v));
+  each = All-cons (λ x. AtMost x v) a [] (subst (λ (x : Value). AtMost a x) (sym is) (record { words = λ w ra word address has. has }))
+      (All-nil (λ x. AtMost x v));
   least = λ u over_u each. subst (λ (x : Value). AtMost x u) (sym is) (All-head (λ x. AtMost x u) a [] each);
 }
 least_of_joins t a v (b ∷ bs) over (m, join, rest) =
@@ -27,18 +28,23 @@ least_of_joins t a v (b ∷ bs) over (m, join, rest) =
     let m_below : AtMost m v = All-head (λ x. AtMost x v) m bs least.each in
     record {
       over = least.over;
-      each = All-cons (λ x. AtMost x v) a (b ∷ bs) (at_most_trans a m v join.left m_below) (All-cons (λ x. AtMost x v) b bs (at_most_trans b m v join.right m_below) (All-tail (λ x. AtMost x v) m bs least.each));
+      each = All-cons (λ x. AtMost x v) a (b ∷ bs) (at_most_trans a m v join.left m_below)
+          (All-cons (λ x. AtMost x v) b bs (at_most_trans b m v join.right m_below) (All-tail (λ x. AtMost x v) m bs least.each));
       least = λ u over_u each.
           let tail = All-tail (λ x. AtMost x u) a (b ∷ bs) each in
-          least.least u over_u (All-cons (λ x. AtMost x u) m bs (join.least u over_u (All-head (λ x. AtMost x u) a (b ∷ bs) each) (All-head (λ x. AtMost x u) b bs tail)) (All-tail (λ x. AtMost x u) b bs tail));
+          least.least u over_u (All-cons (λ x. AtMost x u) m bs (join.least u over_u (All-head (λ x. AtMost x u) a (b ∷ bs) each)
+          (All-head (λ x. AtMost x u) b bs tail)) (All-tail (λ x. AtMost x u) b bs tail));
     }
 
-pub joins_agree : (t : List ℕ) (a b v u : Value) (firsts seconds : List Value) → All (IsOver t) (a ∷ firsts) → All (IsOver t) (b ∷ seconds) → ((x : Value) → Contains (a ∷ firsts) x ↔ Contains (b ∷ seconds) x) → JoinsTo t a firsts v → JoinsTo t b seconds u → v ≡ u
+pub joins_agree : (t : List ℕ) (a b v u : Value) (firsts seconds : List Value) → All (IsOver t) (a ∷ firsts) → All (IsOver t) (b ∷ seconds)
+    → ((x : Value) → Contains (a ∷ firsts) x ↔ Contains (b ∷ seconds) x) → JoinsTo t a firsts v → JoinsTo t b seconds u → v ≡ u
 joins_agree t a b v u firsts seconds over_firsts over_seconds same first second =
     let one = least_of_joins t a v firsts over_firsts first in
     let other = least_of_joins t b u seconds over_seconds second in
-    let up : AtMost v u = one.least u other.over (All-weaker (Contains (a ∷ firsts)) (λ x. AtMost x u) (λ x has. All-contains (λ x. AtMost x u) (b ∷ seconds) x other.each ((same x).0 has)) (a ∷ firsts) (All-contains_itself (a ∷ firsts))) in
-    let down : AtMost u v = other.least v one.over (All-weaker (Contains (b ∷ seconds)) (λ x. AtMost x v) (λ x has. All-contains (λ x. AtMost x v) (a ∷ firsts) x one.each ((same x).1 has)) (b ∷ seconds) (All-contains_itself (b ∷ seconds))) in
+    let up : AtMost v u = one.least u other.over (All-weaker (Contains (a ∷ firsts)) (λ x. AtMost x u)
+    (λ x has. All-contains (λ x. AtMost x u) (b ∷ seconds) x other.each ((same x).0 has)) (a ∷ firsts) (All-contains_itself (a ∷ firsts))) in
+    let down : AtMost u v = other.least v one.over (All-weaker (Contains (b ∷ seconds)) (λ x. AtMost x v)
+    (λ x has. All-contains (λ x. AtMost x v) (a ∷ firsts) x one.each ((same x).1 has)) (b ∷ seconds) (All-contains_itself (b ∷ seconds))) in
     same_value v u one.over.value other.over.value up down
 
 pub join_is_monotone : (t more : List ℕ) (a b c d v u : Value) → AreMore t more → AtMost c a → AtMost d b → IsJoin t a b v → IsJoin more c d u → AtMost u v

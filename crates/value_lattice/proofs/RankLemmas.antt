@@ -1,20 +1,21 @@
 -- The rank of lists of values: the heights together rise, or the lists are the same.
-use Rattle.std.proofs.Common.{◌≡◌, ℕ, suc, ◌+◌, ◌*◌, ◌<◌, ◌≤◌, ◌⊎◌, ◌&&◌, Bool, true, false, List, [], ◌∷◌, length, refl, ap, inl, inr, arith}
+use Rattle.std.proofs.Common.{◌≡◌, ℕ, ◌+◌, ◌*◌, ◌<◌, ◌≤◌, ◌⊎◌, true, List, [], ◌∷◌, length, refl, ap, inl, inr, arith}
 use Rattle.std.proofs.lemmas.Bool.{and_parts, and_from, false≢true, cases_Bool, both_ways}
 use Rattle.std.specs.List.{list_all}
 use Rattle.value_lattice.specs.Height.{height, heights, are_at_most}
 use Rattle.value_lattice.specs.Test.{is_over, is_at_most, AreOrdered}
-use Rattle.value_lattice.specs.Value.{AtMost, IsOver}
 use Rattle.value_lattice.specs.declared.value.Value.{Value}
 use Rattle.value_lattice.proofs.HeightLemmas.{rise, bound}
 use Rattle.value_lattice.proofs.TestLemmas.{over_decides, ordered, at_most_from, the_order_is_one}
 
-pub height_or_back : (t : List ℕ) (a b : Value) → is_over t a ≡ true → is_over t b ≡ true → is_at_most a b ≡ true → (height t a < height t b) ⊎ (is_at_most b a ≡ true)
+pub height_or_back : (t : List ℕ) (a b : Value) → is_over t a ≡ true → is_over t b ≡ true → is_at_most a b ≡ true
+    → (height t a < height t b) ⊎ (is_at_most b a ≡ true)
 height_or_back t a b over_a over_b up =
     let there : AreOrdered a b = ordered a b up in
     elim (cases_Bool (is_at_most b a)) [
       | inl back ↦ inr back
-      | inr apart ↦ inl (rise t a b ((over_decides t a).0 over_a) ((over_decides t b).0 over_b) (record { up = there.up; apart = λ down. both_ways (is_at_most b a) apart (at_most_from b a there.right there.left down) }))
+      | inr apart ↦ inl (rise t a b ((over_decides t a).0 over_a) ((over_decides t b).0 over_b)
+          (record { up = there.up; apart = λ down. both_ways (is_at_most b a) apart (at_most_from b a there.right there.left down) }))
     ]
 
 pub lists_are_same : (vs us : List Value) → are_at_most vs us ≡ true → are_at_most us vs ≡ true → vs ≡ us
@@ -28,7 +29,8 @@ lists_are_same (v ∷ vs) (u ∷ us) up down =
     let rest : vs ≡ us = lists_are_same vs us first.1 back.1 in
     cc
 
-pub heights_rise : (t : List ℕ) (vs us : List Value) → list_all (is_over t) vs ≡ true → list_all (is_over t) us ≡ true → are_at_most vs us ≡ true → (heights t vs < heights t us) ⊎ (are_at_most us vs ≡ true)
+pub heights_rise : (t : List ℕ) (vs us : List Value) → list_all (is_over t) vs ≡ true → list_all (is_over t) us ≡ true → are_at_most vs us ≡ true
+    → (heights t vs < heights t us) ⊎ (are_at_most us vs ≡ true)
 heights_rise t [] [] over_vs over_us up = inr refl
 heights_rise t [] (u ∷ us) over_vs over_us up = absurd (false≢true up)
 heights_rise t (v ∷ vs) [] over_vs over_us up = absurd (false≢true up)

@@ -1,5 +1,6 @@
 -- Rising lists of words, and how many words they have.
-use Rattle.std.proofs.Common.{◌≡◌, ℕ, ◌+◌, ◌-◌, ◌^◌, ◌<◌, ◌≤◌, Bool, true, false, zero, suc, eqb, List, [], ◌∷◌, length, get_or, refl, sym, ap, subst, ◌∙◌, inl, inr, arith, map, All, Contains, count_by, cond}
+use Rattle.std.proofs.Common.{◌≡◌, ℕ, ◌+◌, ◌-◌, ◌^◌, ◌<◌, ◌≤◌, Bool, true, false, zero, suc, eqb, List, [], ◌∷◌, length, get_or, refl, sym, ap, subst, ◌∙◌}
+use Rattle.std.proofs.Common.{inl, inr, arith, map, All, Contains, count_by, cond}
 use Rattle.std.proofs.lemmas.List.Sums.{sum_by-cons}
 use Rattle.std.proofs.lemmas.Bool.{ne_eqb, cases_lt, cases_Bool, both_ways}
 use Rattle.std.proofs.lemmas.Bool.Decides.{Decides-eqb}
@@ -41,15 +42,19 @@ Contains-map f xs x h =
 -- numbers that rise differ
 pub distinct_from_rising : (xs : List ℕ) → IsStrictlyIncreasing xs → IsDistinct eqb xs
 distinct_from_rising xs rises =
-    IsDistinct-from_apart eqb xs (λ i j d below within. ne_eqb _ _ (λ same. let up : get_or xs i d < get_or xs j d = AllPairs-from_increasing xs rises i j d below within in omega arith))
+    IsDistinct-from_apart eqb xs
+    (λ i j d below within. ne_eqb _ _ (λ same. let up : get_or xs i d < get_or xs j d = AllPairs-from_increasing xs rises i j d below within in omega
+    arith))
 
 -- a list that has all of a rising list is at least as long
 pub length_rising_in : (xs ys : List ℕ) → IsStrictlyIncreasing xs → ((w : ℕ) → Contains xs w → Contains ys w) → length xs ≤ length ys
 length_rising_in xs ys rises in_ys =
-    length-le_from_is_member nat_eq_equiv xs ys (distinct_from_rising xs rises) (λ q member. (is_member-Decides Decides-eqb ys q).1 (in_ys q ((is_member-Decides Decides-eqb xs q).0 member)))
+    length-le_from_is_member nat_eq_equiv xs ys (distinct_from_rising xs rises)
+    (λ q member. (is_member-Decides Decides-eqb ys q).1 (in_ys q ((is_member-Decides Decides-eqb xs q).0 member)))
 
 -- a list that has all words between two places that are far apart is long
-pub between_is_long : (xs : List ℕ) (low high : ℕ) → low + 128 ≤ high → high < 2 ^ 32 → ((w : ℕ) → w < 2 ^ 32 → IsBetween low high w → Contains xs w) → 128 < length xs
+pub between_is_long : (xs : List ℕ) (low high : ℕ) → low + 128 ≤ high → high < 2 ^ 32 → ((w : ℕ) → w < 2 ^ 32 → IsBetween low high w → Contains xs w)
+    → 128 < length xs
 between_is_long xs low high far fits has =
     let f : ℕ → ℕ = λ w. place_of w - low in
     let all : (q : ℕ) → q < 129 → Contains (map f xs) q =
@@ -61,7 +66,8 @@ between_is_long xs low high far fits has =
     omega (arith, long, length-map xs f)
 
 -- many words are far apart
-pub long_is_wide : (xs : List ℕ) (low high : ℕ) → IsStrictlyIncreasing xs → All (λ w. w < 2 ^ 32) xs → 128 < length xs → ((w : ℕ) → Contains xs w → IsBetween low high w) → low + 128 ≤ high
+pub long_is_wide : (xs : List ℕ) (low high : ℕ) → IsStrictlyIncreasing xs → All (λ w. w < 2 ^ 32) xs → 128 < length xs
+    → ((w : ℕ) → Contains xs w → IsBetween low high w) → low + 128 ≤ high
 long_is_wide xs low high rises fits many between =
     elim (cases_lt high (low + 128)) [
       | inl near ↦
@@ -70,69 +76,46 @@ long_is_wide xs low high rises fits many between =
           let word : w < 2 ^ 32 = All-contains (λ w. w < 2 ^ 32) xs w fits member in
           let within : IsBetween low high w = between w member in
           let index : place_of w - low < 128 = omega arith in
-          let length_is : length (map word_at (range_with_len low 128)) ≡ 128 = length-map-range_with_len word_at low 128 in
-          (place_of w - low, omega arith, get_or-map-range_with_len word_at low 128 (place_of w - low) (place_of w) w index (omega arith) ∙ word_at-place_of w word)) in
+          let length_is : length (map word_at (range_with_len low 128)) ≡ 128 = length-map-range_with_len word_at low 128 in (
+            place_of w - low,
+            omega arith,
+            get_or-map-range_with_len word_at low 128 (place_of w - low) (place_of w) w index (omega arith) ∙ word_at-place_of w
+                word,
+          )) in
           absurd (omega (arith, few, length-map-range_with_len word_at low 128))
       | inr far ↦ far
     ]
 
 -- a list that has all of a rising list and another word is longer
-pub length_rising_below : (xs ys : List ℕ) (w : ℕ) → IsStrictlyIncreasing xs → ((v : ℕ) → Contains xs v → Contains ys v) → Contains ys w → (Contains xs w → ⊥) → length xs < length ys
+pub length_rising_below : (xs ys : List ℕ) (w : ℕ) → IsStrictlyIncreasing xs → ((v : ℕ) → Contains xs v → Contains ys v) → Contains ys w → (Contains xs w → ⊥)
+    → length xs < length ys
 length_rising_below xs ys w rises in_ys has lacks =
     let apart : All (λ y. eqb w y ≡ false) xs =
-    All-weaker (Contains xs) (λ y. eqb w y ≡ false) (λ y has_y. ne_eqb w y (λ same. lacks (subst (Contains xs) (sym same) has_y))) xs (All-contains_itself xs) in
+    All-weaker (Contains xs) (λ y. eqb w y ≡ false) (λ y has_y. ne_eqb w y (λ same. lacks (subst (Contains xs) (sym same) has_y))) xs
+    (All-contains_itself xs) in
     let longer : length (w ∷ xs) ≤ length ys =
-    length-le_from_is_member nat_eq_equiv (w ∷ xs) ys (IsDistinct-cons eqb w xs (recursion_from_All (λ y. eqb w y ≡ false) xs apart) (distinct_from_rising xs rises)) (λ q member. (is_member-Decides Decides-eqb ys q).1 (in_both q ((is_member-Decides Decides-eqb (w ∷ xs) q).0 member))) in
+    length-le_from_is_member nat_eq_equiv (w ∷ xs) ys
+    (IsDistinct-cons eqb w xs (recursion_from_All (λ y. eqb w y ≡ false) xs apart) (distinct_from_rising xs rises))
+    (λ q member. (is_member-Decides Decides-eqb ys q).1 (in_both q ((is_member-Decides Decides-eqb (w ∷ xs) q).0 member))) in
     omega arith where
       in_both : (q : ℕ) → Contains (w ∷ xs) q → Contains ys q
       in_both q (zero, within, is) = subst (Contains ys) is has
       in_both q (suc k, within, is) = in_ys q (k, omega arith, is)
 
 -- a rising list that is not longer than one of its parts has no more than that part
-pub rising_in_part : (xs ys : List ℕ) → IsStrictlyIncreasing xs → ((w : ℕ) → Contains xs w → Contains ys w) → length ys ≤ length xs → (w : ℕ) → Contains ys w → Contains xs w
+pub rising_in_part : (xs ys : List ℕ) → IsStrictlyIncreasing xs → ((w : ℕ) → Contains xs w → Contains ys w) → length ys ≤ length xs → (w : ℕ) → Contains ys w
+    → Contains xs w
 rising_in_part xs ys rises in_ys short w has =
     elim (cases_Bool (is_member eqb xs w)) [
       | inl member ↦ (is_member-Decides Decides-eqb xs w).0 member
-      | inr no_member ↦ absurd (omega (arith, short, length_rising_below xs ys w rises in_ys has (λ has_w. both_ways (is_member eqb xs w) no_member ((is_member-Decides Decides-eqb xs w).1 has_w))))
+      | inr no_member ↦ absurd
+          (omega (
+            arith,
+            short,
+            length_rising_below xs ys w rises in_ys has
+                (λ has_w. both_ways (is_member eqb xs w) no_member ((is_member-Decides Decides-eqb xs w).1 has_w)),
+          ))
     ]
-
--- the rest of a rising list rises
-pub rising_rest : (x : ℕ) (xs : List ℕ) → IsStrictlyIncreasing (x ∷ xs) → IsStrictlyIncreasing xs
-rising_rest x xs rises k below = let next : suc k + 1 ≡ suc (k + 1) = omega arith in rw next at (rises (suc k) (omega arith))
-
--- the first of a rising list is its least
-first_is_least : (x : ℕ) (xs : List ℕ) (w : ℕ) → IsStrictlyIncreasing (x ∷ xs) → Contains (x ∷ xs) w → x ≤ w
-first_is_least x xs w rises (zero, within, is) = omega (arith, is)
-first_is_least x xs w rises (suc k, within, is) =
-    let up : get_or (x ∷ xs) 0 w < get_or (x ∷ xs) (suc k) w = AllPairs-from_increasing (x ∷ xs) rises 0 (suc k) w (omega arith) within in
-    omega (arith, up, is)
-
--- what stands behind the first of a rising list is above it
-rest_is_above : (x : ℕ) (xs : List ℕ) (w : ℕ) → IsStrictlyIncreasing (x ∷ xs) → Contains xs w → x < w
-rest_is_above x xs w rises (k, within, is) =
-    let up : get_or (x ∷ xs) 0 w < get_or (x ∷ xs) (suc k) w = AllPairs-from_increasing (x ∷ xs) rises 0 (suc k) w (omega arith) (omega arith) in
-    omega (arith, up, is)
-
--- what is above the first stands behind it
-in_rest : (x : ℕ) (xs : List ℕ) (w : ℕ) → Contains (x ∷ xs) w → x < w → Contains xs w
-in_rest x xs w (zero, within, is) above = absurd (omega (arith, is))
-in_rest x xs w (suc k, within, is) above = (k, omega arith, is)
-
-behind : (x : ℕ) (xs : List ℕ) (w : ℕ) → Contains xs w → Contains (x ∷ xs) w
-behind x xs w (k, within, is) = (suc k, omega arith, is)
-
--- rising lists of the same words are the same
-pub same_rising : (xs ys : List ℕ) → IsStrictlyIncreasing xs → IsStrictlyIncreasing ys → ((w : ℕ) → Contains xs w → Contains ys w) → ((w : ℕ) → Contains ys w → Contains xs w) → xs ≡ ys
-same_rising [] [] rises others there back = refl
-same_rising [] (y ∷ ys) rises others there back = absurd (omega (arith, (back y (0, omega arith, refl)).1))
-same_rising (x ∷ xs) [] rises others there back = absurd (omega (arith, (there x (0, omega arith, refl)).1))
-same_rising (x ∷ xs) (y ∷ ys) rises others there back =
-    let up : y ≤ x = first_is_least y ys x others (there x (0, omega arith, refl)) in
-    let down : x ≤ y = first_is_least x xs y rises (back y (0, omega arith, refl)) in
-    let same : x ≡ y = omega arith in
-    let rest : xs ≡ ys =
-    same_rising xs ys (rising_rest x xs rises) (rising_rest y ys others) (λ w has. let above : x < w = rest_is_above x xs w rises has in in_rest y ys w (there w (behind x xs w has)) (omega arith)) (λ w has. let above : y < w = rest_is_above y ys w others has in in_rest x xs w (back w (behind y ys w has)) (omega arith)) in
-    cc
 
 count_by-cons : (p : ℕ → Bool) (x : ℕ) (xs : List ℕ) → count_by p (x ∷ xs) ≡ cond (p x) 1 0 + count_by p xs
 count_by-cons p x xs = sum_by-cons (λ y. cond (p y) 1 0) x xs
@@ -145,7 +128,8 @@ count_by-le p q more (x ∷ xs) =
     let here : p x ≡ true → q x ≡ true = more x in
     grind (arith, rest, here, count_by-cons p x xs, count_by-cons q x xs)
 
-pub count_by-lt : (p q : ℕ → Bool) → ((x : ℕ) → p x ≡ true → q x ≡ true) → (xs : List ℕ) (w : ℕ) → Contains xs w → p w ≡ false → q w ≡ true → count_by p xs < count_by q xs
+pub count_by-lt : (p q : ℕ → Bool) → ((x : ℕ) → p x ≡ true → q x ≡ true) → (xs : List ℕ) (w : ℕ) → Contains xs w → p w ≡ false → q w ≡ true
+    → count_by p xs < count_by q xs
 count_by-lt p q more [] w has held passed = absurd (omega (arith, has.1))
 count_by-lt p q more (x ∷ xs) w (zero, within, is) held passed =
     let rest : count_by p xs ≤ count_by q xs = count_by-le p q more xs in
@@ -158,7 +142,8 @@ count_by-lt p q more (x ∷ xs) w (suc k, within, is) held passed =
     grind (arith, rest, here, count_by-cons p x xs, count_by-cons q x xs)
 
 -- the words at places one after the other are those between the first and the last
-pub listed_are_between : (words : List ℕ) (low high w : ℕ) → low ≤ high → high < 2 ^ 32 → words ≡ map word_at (range_with_len low (high - low + 1)) → Contains words w → IsBetween low high w
+pub listed_are_between : (words : List ℕ) (low high w : ℕ) → low ≤ high → high < 2 ^ 32 → words ≡ map word_at (range_with_len low (high - low + 1))
+    → Contains words w → IsBetween low high w
 listed_are_between words low high w up fits is has =
     let listed : Contains (map word_at (range_with_len low (high - low + 1))) w = subst (λ (ws : List ℕ). Contains ws w) is has in
     let within : listed.0 < high - low + 1 = omega (arith, listed.1, length-map-range_with_len word_at low (high - low + 1)) in
@@ -166,8 +151,14 @@ listed_are_between words low high w up fits is has =
     let at : place_of (word_at (low + listed.0)) ≡ low + listed.0 = place_of-word_at (low + listed.0) (omega arith) in
     rw same (omega arith, omega arith)
 
-pub between_are_listed : (words : List ℕ) (low high w : ℕ) → low ≤ high → words ≡ map word_at (range_with_len low (high - low + 1)) → w < 2 ^ 32 → IsBetween low high w → Contains words w
+pub between_are_listed : (words : List ℕ) (low high w : ℕ) → low ≤ high → words ≡ map word_at (range_with_len low (high - low + 1)) → w < 2 ^ 32
+    → IsBetween low high w → Contains words w
 between_are_listed words low high w up is word between =
     let index : place_of w - low < high - low + 1 = omega arith in
     let length_is : length (map word_at (range_with_len low (high - low + 1))) ≡ high - low + 1 = length-map-range_with_len word_at low (high - low + 1) in
-    subst (λ (ws : List ℕ). Contains ws w) (sym is) (place_of w - low, omega arith, get_or-map-range_with_len word_at low (high - low + 1) (place_of w - low) (place_of w) w index (omega arith) ∙ word_at-place_of w word)
+    subst (λ (ws : List ℕ). Contains ws w) (sym is) (
+      place_of w - low,
+      omega arith,
+      get_or-map-range_with_len word_at low (high - low + 1) (place_of w - low)
+          (place_of w) w index (omega arith) ∙ word_at-place_of w word,
+    )

@@ -1,5 +1,6 @@
 -- The tests of values decide what they are named after.
-use Rattle.std.proofs.Common.{◌≡◌, ℕ, zero, suc, ◌+◌, ◌^◌, ◌<◌, ◌≤◌, ◌&&◌, Bool, true, false, eqb, List, [], ◌∷◌, length, Decides, refl, arith, All, Contains, nat_lt, nat_le, Option, Some, None}
+use Rattle.std.proofs.Common.{◌≡◌, ℕ, zero, suc, ◌+◌, ◌^◌, ◌<◌, ◌≤◌, ◌&&◌, Bool, true, eqb, List, [], ◌∷◌, length, Decides, refl, arith, All}
+use Rattle.std.proofs.Common.{Contains, nat_lt, nat_le, Option, Some, None}
 use Rattle.std.proofs.lemmas.Bool.{false≢true, leb-true, le-leb, lt-ltb, ltb-true, and_parts, and_from}
 use Rattle.std.proofs.lemmas.Bool.Decides.{Decides-eqb, Decides-ltb, Decides-and, Decides-like, Decides-by_and}
 use Rattle.std.specs.Bool.{one_answer}
@@ -12,13 +13,14 @@ use Rattle.std.specs.Set.{is_member}
 use Rattle.value_lattice.specs.Order.{place_of, rank_of}
 use Rattle.value_lattice.specs.Set.{IsSet, is_set, rises, rises_from}
 use Rattle.value_lattice.specs.Test.{fits_word, is_placed, is_value, has_ends_in, is_over, is_inside, is_at_most, is_less, may_have, AreOrdered, TheOrderIsOne}
-use Rattle.value_lattice.specs.Value.{Has, AtMost, IsValue, HasEndsIn, IsOver, IsBetween, MayHave, IsLess}
+use Rattle.value_lattice.specs.Value.{AtMost, IsValue, HasEndsIn, IsOver, IsBetween, MayHave, IsLess}
 use Rattle.value_lattice.specs.declared.value.Value.{Value}
 use Rattle.value_lattice.specs.declared.value.Value.TheVariants.{Words, Range, Ret}
 use Rattle.value_lattice.proofs.CompareLemmas.{iff_trans, set_in_set, set_in_range, between_in_range, ret_in_range}
 use Rattle.value_lattice.proofs.JoinLemmas.{no_ret_in_set}
 use Rattle.value_lattice.proofs.MayLemmas.{below_zero, may_be_any}
-use Rattle.value_lattice.proofs.SetLemmas.{rising_rest, place_of_below}
+use Rattle.bt_base.proofs.RisingLists.{rising_rest}
+use Rattle.value_lattice.proofs.SetLemmas.{place_of_below}
 use Rattle.value_lattice.proofs.ValueLemmas.{no_range_in_set, no_set_in_ret, no_range_in_ret, range_in_range, same_value}
 
 Decides-leb : (a b : ℕ) → Decides (nat_le a b) (a ≤ b)
@@ -34,7 +36,8 @@ rises_more x y ys up rest (suc k) within = let next : suc k + 1 ≡ suc (k + 1) 
 rises_from_decides : (x : ℕ) (xs : List ℕ) → Decides (rises_from x xs) (IsStrictlyIncreasing (x ∷ xs))
 rises_from_decides x [] = (λ e k within. absurd (omega arith), λ h. refl)
 rises_from_decides x (y ∷ ys) =
-    Decides-like (nat_lt x y && rises_from y ys) (λ (h : (x < y) × IsStrictlyIncreasing (y ∷ ys)). rises_more x y ys h.0 h.1) (λ (rising : IsStrictlyIncreasing (x ∷ y ∷ ys)). (rising 0 (omega arith), rising_rest x (y ∷ ys) rising))
+    Decides-like (nat_lt x y && rises_from y ys) (λ (h : (x < y) × IsStrictlyIncreasing (y ∷ ys)). rises_more x y ys h.0 h.1)
+    (λ (rising : IsStrictlyIncreasing (x ∷ y ∷ ys)). (rising 0 (omega arith), rising_rest x (y ∷ ys) rising))
     (Decides-and (nat_lt x y) (rises_from y ys) (Decides-ltb x y) (rises_from_decides y ys))
 
 rises_decides : (xs : List ℕ) → Decides (rises xs) (IsStrictlyIncreasing xs)
@@ -44,11 +47,14 @@ rises_decides (x ∷ xs) = rises_from_decides x xs
 pub set_decides : (words : List ℕ) → Decides (is_set words) (IsSet words)
 unfolding is_set
 set_decides words =
-    let fits : Decides (list_all (λ w. nat_lt w (2 ^ 32)) words) (All (λ w. w < 2 ^ 32) words) = all_decides (λ w. nat_lt w (2 ^ 32)) (λ w. w < 2 ^ 32) (λ w. Decides-ltb w (2 ^ 32)) words in
+    let fits : Decides (list_all (λ w. nat_lt w (2 ^ 32)) words) (All (λ w. w < 2 ^ 32) words) = all_decides (λ w. nat_lt w (2 ^ 32)) (λ w. w < 2 ^ 32)
+    (λ w. Decides-ltb w (2 ^ 32)) words in
     Decides-like (nat_lt 0 (length words) && (nat_le (length words) 128 && (rises words && list_all (λ w. nat_lt w (2 ^ 32)) words)))
-    (λ (h : (0 < length words) × ((length words ≤ 128) × (IsStrictlyIncreasing words × All (λ w. w < 2 ^ 32) words))). record { some = h.0; few = h.1.0; rising = h.1.1.0; fits = h.1.1.1 })
+    (λ (h : (0 < length words) × ((length words ≤ 128) × (IsStrictlyIncreasing words × All (λ w. w < 2 ^ 32) words))). record
+    { some = h.0; few = h.1.0; rising = h.1.1.0; fits = h.1.1.1 })
     (λ (set : IsSet words). (set.some, (set.few, (set.rising, set.fits))))
-    (Decides-and (nat_lt 0 (length words)) (nat_le (length words) 128 && (rises words && list_all (λ w. nat_lt w (2 ^ 32)) words)) (Decides-ltb 0 (length words))
+    (Decides-and (nat_lt 0 (length words)) (nat_le (length words) 128 && (rises words && list_all (λ w. nat_lt w (2 ^ 32)) words))
+    (Decides-ltb 0 (length words))
     (Decides-and (nat_le (length words) 128) (rises words && list_all (λ w. nat_lt w (2 ^ 32)) words) (Decides-leb (length words) 128)
     (Decides-and (rises words) (list_all (λ w. nat_lt w (2 ^ 32)) words) (rises_decides words) fits)))
 
@@ -74,18 +80,21 @@ member_decides xs w = is_member-Decides Decides-eqb xs w
 
 ends_decide : (t : List ℕ) (v : Value) → Decides (has_ends_in t v) (HasEndsIn t v)
 ends_decide t (Words words) = (λ e. tt, λ h. refl)
-ends_decide t (Range lo hi) = Decides-and (is_member eqb t (rank_of lo)) (is_member eqb t (rank_of hi)) (member_decides t (rank_of lo)) (member_decides t (rank_of hi))
+ends_decide t (Range lo hi) = Decides-and (is_member eqb t (rank_of lo)) (is_member eqb t (rank_of hi)) (member_decides t (rank_of lo))
+    (member_decides t (rank_of hi))
 ends_decide t Ret = (λ e. tt, λ h. refl)
 
 pub over_decides : (t : List ℕ) (v : Value) → Decides (is_over t v) (IsOver t v)
 unfolding is_over
 over_decides t v =
-    Decides-like (is_value v && has_ends_in t v) (λ (h : IsValue v × HasEndsIn t v). record { value = h.0; ends = h.1 }) (λ (over : IsOver t v). (over.value, over.ends))
+    Decides-like (is_value v && has_ends_in t v) (λ (h : IsValue v × HasEndsIn t v). record { value = h.0; ends = h.1 })
+    (λ (over : IsOver t v). (over.value, over.ends))
     (Decides-and (is_value v) (has_ends_in t v) (value_decides v) (ends_decide t v))
 
 inside_decides : (a b : Value) → IsValue a → IsValue b → Decides (is_inside a b) (AtMost a b)
 inside_decides (Words xs) (Words ys) va vb =
-    Decides-like (list_all (is_member eqb ys) xs) (set_in_set xs ys va).0 (set_in_set xs ys va).1 (all_decides (is_member eqb ys) (Contains ys) (member_decides ys) xs)
+    Decides-like (list_all (is_member eqb ys) xs) (set_in_set xs ys va).0 (set_in_set xs ys va).1
+    (all_decides (is_member eqb ys) (Contains ys) (member_decides ys) xs)
 inside_decides (Words xs) (Range lo hi) va vb =
     Decides-like (list_all (is_placed (rank_of lo) (rank_of hi)) xs) (set_in_range xs lo hi va).0 (set_in_range xs lo hi va).1
     (all_decides (is_placed (rank_of lo) (rank_of hi)) (IsBetween (rank_of lo) (rank_of hi)) (placed_decides (rank_of lo) (rank_of hi)) xs)
@@ -93,9 +102,11 @@ inside_decides (Words xs) Ret va vb = (λ e. absurd (false≢true e), λ up. abs
 inside_decides (Range lo hi) (Words ys) va vb = (λ e. absurd (false≢true e), λ up. absurd (no_range_in_set lo hi ys va vb up))
 inside_decides (Range lo hi) (Range first last) va vb =
     Decides-like (nat_le (rank_of first) (rank_of lo) && nat_le (rank_of hi) (rank_of last))
-    (λ (h : (rank_of first ≤ rank_of lo) × (rank_of hi ≤ rank_of last)). record { words = λ w ra word address has. (omega (arith, h, has), omega (arith, h, has)) })
+    (λ (h : (rank_of first ≤ rank_of lo) × (rank_of hi ≤ rank_of last)). record
+    { words = λ w ra word address has. (omega (arith, h, has), omega (arith, h, has)) })
     (range_in_range lo hi first last va)
-    (Decides-and (nat_le (rank_of first) (rank_of lo)) (nat_le (rank_of hi) (rank_of last)) (Decides-leb (rank_of first) (rank_of lo)) (Decides-leb (rank_of hi) (rank_of last)))
+    (Decides-and (nat_le (rank_of first) (rank_of lo)) (nat_le (rank_of hi) (rank_of last)) (Decides-leb (rank_of first) (rank_of lo))
+    (Decides-leb (rank_of hi) (rank_of last)))
 inside_decides (Range lo hi) Ret va vb = (λ e. absurd (false≢true e), λ up. absurd (no_range_in_ret lo hi va up))
 inside_decides Ret (Words ys) va vb = (λ e. absurd (false≢true e), λ up. absurd (no_ret_in_set ys vb up))
 inside_decides Ret (Range lo hi) va vb =
@@ -117,13 +128,16 @@ at_most_decides a b = (there, back) where
 
   back : AreOrdered a b → (is_value a && (is_value b && is_inside a b)) ≡ true
   back o =
-      and_from (is_value a) (is_value b && is_inside a b) ((value_decides a).1 o.left) (and_from (is_value b) (is_inside a b) ((value_decides b).1 o.right) ((inside_decides a b o.left o.right).1 o.up))
+      and_from (is_value a) (is_value b && is_inside a b) ((value_decides a).1 o.left)
+      (and_from (is_value b) (is_inside a b) ((value_decides b).1 o.right) ((inside_decides a b o.left o.right).1 o.up))
 
 pub may_have_decides : (v : Value) (w : ℕ) → w < 2 ^ 32 → Decides (may_have v w) (MayHave v w)
 unfolding may_have
-may_have_decides (Words words) w word = Decides-like (is_member eqb words w) (λ (has : Contains words w). record { address = 0; fits = omega arith; has = has }) (λ (may : MayHave (Words words) w). may.has) (member_decides words w)
+may_have_decides (Words words) w word = Decides-like (is_member eqb words w)
+    (λ (has : Contains words w). record { address = 0; fits = omega arith; has = has }) (λ (may : MayHave (Words words) w). may.has) (member_decides words w)
 may_have_decides (Range lo hi) w word =
-    Decides-like (is_placed (rank_of lo) (rank_of hi) w) (λ (has : IsBetween (rank_of lo) (rank_of hi) w). record { address = 0; fits = omega arith; has = has }) (λ (may : MayHave (Range lo hi) w). may.has)
+    Decides-like (is_placed (rank_of lo) (rank_of hi) w)
+    (λ (has : IsBetween (rank_of lo) (rank_of hi) w). record { address = 0; fits = omega arith; has = has }) (λ (may : MayHave (Range lo hi) w). may.has)
     (placed_decides (rank_of lo) (rank_of hi) w)
 may_have_decides Ret w word = (λ e. may_be_any w word, λ may. lt-ltb w (2 ^ 32) word)
 

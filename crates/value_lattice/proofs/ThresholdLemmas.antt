@@ -49,7 +49,8 @@ after t place i is fits found =
       | inr none ↦ absurd (omega (arith, g.below is.greatest.0 (omega (arith, is.greatest.1)), at_zero t 4294967295 is.greatest))
     ]
 
-pub rounded_down : (t : List ℕ) (place i : ℕ) → IsThresholds t → place < 2 ^ 32 → IsBinarySearchResult (λ y. nat_cmp y place) t (Err i) → IsRoundedDown t place (get_or t (i - 1) 0)
+pub rounded_down : (t : List ℕ) (place i : ℕ) → IsThresholds t → place < 2 ^ 32 → IsBinarySearchResult (λ y. nat_cmp y place) t (Err i)
+    → IsRoundedDown t place (get_or t (i - 1) 0)
 rounded_down t place i is fits found =
     let g = gap t place i is.rising found in
     let some : 1 ≤ i = before t place i is fits found in
@@ -63,7 +64,8 @@ rounded_down t place i is fits found =
           ];
     }
 
-pub rounded_up : (t : List ℕ) (place i : ℕ) → IsThresholds t → place < 2 ^ 32 → IsBinarySearchResult (λ y. nat_cmp y place) t (Err i) → IsRoundedUp t place (get_or t i 0)
+pub rounded_up : (t : List ℕ) (place i : ℕ) → IsThresholds t → place < 2 ^ 32 → IsBinarySearchResult (λ y. nat_cmp y place) t (Err i)
+    → IsRoundedUp t place (get_or t i 0)
 rounded_up t place i is fits found =
     let g = gap t place i is.rising found in
     let some : i < length t = after t place i is fits found in
@@ -83,9 +85,12 @@ All-places t numbers has i d within =
     has (rank_of (get_or numbers i d)) (i, rw length-map within, get_or-map rank_of numbers i d (rank_of (get_or numbers i d)) within)
 
 -- what is true of thresholds is true of them put in order with others
-pub widens : (old between new : List ℕ) (list : List ℤ) → Contains old 0 → Contains old 4294967295 → between ≡ old ++ map rank_of list → IsStrictlyIncreasing new → All (λ k. k < 2 ^ 32) new → ((k : ℕ) → Contains between k → Contains new k) → ((k : ℕ) → Contains new k → Contains between k) → Widens old new list
+pub widens : (old between new : List ℕ) (list : List ℤ) → Contains old 0 → Contains old 4294967295 → between ≡ old ++ map rank_of list
+    → IsStrictlyIncreasing new → All (λ k. k < 2 ^ 32) new → ((k : ℕ) → Contains between k → Contains new k) → ((k : ℕ) → Contains new k → Contains between k)
+    → Widens old new list
 widens old between new list least greatest is rises fits keeps adds_none =
-    let from_old : (k : ℕ) → Contains old k → Contains new k = λ k has. keeps k (subst (λ (xs : List ℕ). Contains xs k) (sym is) (Contains-append_left old (map rank_of list) k has)) in
+    let from_old : (k : ℕ) → Contains old k
+    → Contains new k = λ k has. keeps k (subst (λ (xs : List ℕ). Contains xs k) (sym is) (Contains-append_left old (map rank_of list) k has)) in
     record {
       thresholds = record { rising = rises; places = fits; least = from_old 0 least; greatest = from_old 4294967295 greatest };
       keeps = from_old;

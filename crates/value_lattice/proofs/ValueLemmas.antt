@@ -10,17 +10,20 @@ use Rattle.value_lattice.specs.Set.{IsSet}
 use Rattle.value_lattice.specs.Value.{Has, AtMost, IsValue, IsOver, HasEach, IsLeast, IsBetween}
 use Rattle.value_lattice.specs.declared.value.Value.{Value}
 use Rattle.value_lattice.specs.declared.value.Value.TheVariants.{Words, Range, Ret}
-use Rattle.value_lattice.proofs.SetLemmas.{place_of-word_at, word_at_below, between_is_long, length_rising_in, same_rising}
+use Rattle.bt_base.proofs.RisingLists.{same_rising}
+use Rattle.value_lattice.proofs.SetLemmas.{place_of-word_at, word_at_below, between_is_long, length_rising_in}
 
 -- the range between rounded ends is the least value that has all between
-pub range_is_least : (t : List ℕ) (low high : ℕ) (lo hi : ℤ) → low + 128 ≤ high → high < 2 ^ 32 → FitsSigned w32 lo → FitsSigned w32 hi → IsRoundedDown t low (rank_of lo) → IsRoundedUp t high (rank_of hi) → IsLeast t (IsBetween low high) (Range lo hi)
+pub range_is_least : (t : List ℕ) (low high : ℕ) (lo hi : ℤ) → low + 128 ≤ high → high < 2 ^ 32 → FitsSigned w32 lo → FitsSigned w32 hi
+    → IsRoundedDown t low (rank_of lo) → IsRoundedUp t high (rank_of hi) → IsLeast t (IsBetween low high) (Range lo hi)
 range_is_least t low high lo hi far fits lo_fits hi_fits down up = record {
   over = record { value = (lo_fits, hi_fits, omega (arith, down.outward, up.outward)); ends = (down.threshold, up.threshold) };
   each = record { words = λ w ra word address between. (omega (arith, down.outward, between.0), omega (arith, up.outward, between.1)) };
   least = is_least;
 } where
   is_least : (u : Value) → IsOver t u → HasEach (IsBetween low high) u → AtMost (Range lo hi) u
-  is_least (Words words) over each = absurd (omega (arith, over.value.few, between_is_long words low high far fits (λ w word between. each.words w 0 word (omega arith) between)))
+  is_least (Words words) over each = absurd
+      (omega (arith, over.value.few, between_is_long words low high far fits (λ w word between. each.words w 0 word (omega arith) between)))
   is_least (Range first last) over each =
       let at_low : place_of (word_at low) ≡ low = place_of-word_at low (omega arith) in
       let at_high : place_of (word_at high) ≡ high = place_of-word_at high fits in
@@ -36,7 +39,8 @@ range_is_least t low high lo hi far fits lo_fits hi_fits down up = record {
       absurd (omega arith)
 
 -- where a kind has the same words, the same value is least
-pub least_of_same : (t : List ℕ) (kind other : ℕ → Type 0) (v : Value) → ((w : ℕ) → w < 2 ^ 32 → kind w → other w) → ((w : ℕ) → w < 2 ^ 32 → other w → kind w) → IsLeast t kind v → IsLeast t other v
+pub least_of_same : (t : List ℕ) (kind other : ℕ → Type 0) (v : Value) → ((w : ℕ) → w < 2 ^ 32 → kind w → other w) → ((w : ℕ) → w < 2 ^ 32 → other w → kind w)
+    → IsLeast t kind v → IsLeast t other v
 least_of_same t kind other v there back least = record {
   over = least.over;
   each = record { words = λ w ra word address is. least.each.words w ra word address (back w word is) };
@@ -52,7 +56,9 @@ set_is_least t words set = record {
 }
 
 -- the range round more words than a set has is the least value that has them
-pub hull_is_least : (t words : List ℕ) (low high : ℕ) (v : Value) → IsStrictlyIncreasing words → All (λ w. w < 2 ^ 32) words → 128 < length words → ((w : ℕ) → Contains words w → IsBetween low high w) → low < 2 ^ 32 → high < 2 ^ 32 → Contains words (word_at low) → Contains words (word_at high) → IsLeast t (IsBetween low high) v → IsLeast t (Contains words) v
+pub hull_is_least : (t words : List ℕ) (low high : ℕ) (v : Value) → IsStrictlyIncreasing words → All (λ w. w < 2 ^ 32) words → 128 < length words
+    → ((w : ℕ) → Contains words w → IsBetween low high w) → low < 2 ^ 32 → high < 2 ^ 32 → Contains words (word_at low) → Contains words (word_at high)
+    → IsLeast t (IsBetween low high) v → IsLeast t (Contains words) v
 hull_is_least t words low high v rises fits many between low_fits high_fits has_low has_high least = record {
   over = least.over;
   each = record { words = λ w ra word address is. least.each.words w ra word address (between w is) };
@@ -60,7 +66,8 @@ hull_is_least t words low high v rises fits many between low_fits high_fits has_
 } where
   is_least : (u : Value) → IsOver t u → HasEach (Contains words) u → AtMost v u
   is_least (Words others) over each =
-      let in_others : (w : ℕ) → Contains words w → Contains others w = λ w is. each.words w 0 (All-contains (λ w. w < 2 ^ 32) words w fits is) (omega arith) is in
+      let in_others : (w : ℕ) → Contains words w
+      → Contains others w = λ w is. each.words w 0 (All-contains (λ w. w < 2 ^ 32) words w fits is) (omega arith) is in
       absurd (omega (arith, over.value.few, length_rising_in words others rises in_others))
   is_least (Range first last) over each =
       let at_low : place_of (word_at low) ≡ low = place_of-word_at low low_fits in
@@ -86,7 +93,12 @@ rank_below (negsuc n) fits = omega (arith, fits.sfits)
 
 -- a set is no range and no return address, a range is no return address
 pub no_range_in_set : (lo hi : ℤ) (words : List ℕ) → IsValue (Range lo hi) → IsSet words → AtMost (Range lo hi) (Words words) → ⊥
-no_range_in_set lo hi words range set at_most = omega (arith, set.few, between_is_long words (rank_of lo) (rank_of hi) range.2 (rank_below hi range.1) (λ w word between. at_most.words w 0 word (omega arith) between))
+no_range_in_set lo hi words range set at_most = omega (
+  arith,
+  set.few,
+  between_is_long words (rank_of lo) (rank_of hi) range.2 (rank_below hi range.1)
+      (λ w word between. at_most.words w 0 word (omega arith) between),
+)
 
 pub no_set_in_ret : (words : List ℕ) → IsSet words → AtMost (Words words) Ret → ⊥
 no_set_in_ret words set at_most =
@@ -118,7 +130,8 @@ no_range_in_ret lo hi range at_most =
     omega arith
 
 -- a range in a range has its ends between those
-pub range_in_range : (lo hi first last : ℤ) → IsValue (Range lo hi) → AtMost (Range lo hi) (Range first last) → (rank_of first ≤ rank_of lo) × (rank_of hi ≤ rank_of last)
+pub range_in_range : (lo hi first last : ℤ) → IsValue (Range lo hi) → AtMost (Range lo hi) (Range first last)
+    → (rank_of first ≤ rank_of lo) × (rank_of hi ≤ rank_of last)
 range_in_range lo hi first last range at_most =
     let fits : rank_of hi < 2 ^ 32 = rank_below hi range.1 in
     let far : rank_of lo + 128 ≤ rank_of hi = range.2 in
@@ -131,7 +144,9 @@ range_in_range lo hi first last range at_most =
 -- values that are at most each other are the same
 pub same_value : (a b : Value) → IsValue a → IsValue b → AtMost a b → AtMost b a → a ≡ b
 same_value (Words xs) (Words ys) a b up down =
-    ap (λ (ws : List ℕ). Words ws) (same_rising xs ys a.rising b.rising (λ w has. up.words w 0 (All-contains (λ w. w < 2 ^ 32) xs w a.fits has) (omega arith) has) (λ w has. down.words w 0 (All-contains (λ w. w < 2 ^ 32) ys w b.fits has) (omega arith) has))
+    ap (λ (ws : List ℕ). Words ws) (same_rising xs ys a.rising b.rising
+    (λ w has. up.words w 0 (All-contains (λ w. w < 2 ^ 32) xs w a.fits has) (omega arith) has)
+    (λ w has. down.words w 0 (All-contains (λ w. w < 2 ^ 32) ys w b.fits has) (omega arith) has))
 same_value (Words xs) (Range lo hi) a b up down = absurd (no_range_in_set lo hi xs b a down)
 same_value (Words xs) Ret a b up down = absurd (no_set_in_ret xs a up)
 same_value (Range lo hi) (Words ys) a b up down = absurd (no_range_in_set lo hi ys a b up)
@@ -155,6 +170,7 @@ over_more t more (Range lo hi) in_more over = record { value = over.value; ends 
 over_more t more Ret in_more over = record { value = tt; ends = tt }
 
 -- more thresholds, and a kind of fewer words: the least value is at most the other
-pub least_is_monotone : (t more : List ℕ) (kind wider : ℕ → Type 0) (a b : Value) → ((k : ℕ) → Contains t k → Contains more k) → ((w : ℕ) → w < 2 ^ 32 → kind w → wider w) → IsLeast more kind a → IsLeast t wider b → AtMost a b
+pub least_is_monotone : (t more : List ℕ) (kind wider : ℕ → Type 0) (a b : Value) → ((k : ℕ) → Contains t k → Contains more k)
+    → ((w : ℕ) → w < 2 ^ 32 → kind w → wider w) → IsLeast more kind a → IsLeast t wider b → AtMost a b
 least_is_monotone t more kind wider a b in_more in_wider least wide =
     least.least b (over_more t more b in_more wide.over) (record { words = λ w ra word address is. wide.each.words w ra word address (in_wider w word is) })

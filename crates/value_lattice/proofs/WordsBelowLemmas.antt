@@ -1,5 +1,5 @@
 -- The words below a number that a test passes.
-use Rattle.std.proofs.Common.{◌≡◌, ℕ, ◌+◌, ◌^◌, ◌<◌, Bool, true, eqb, List, length, get_or, sym, ap, ◌∙◌, arith, All, Contains, filter}
+use Rattle.std.proofs.Common.{◌≡◌, ℕ, ◌+◌, ◌^◌, ◌<◌, Bool, true, eqb, List, length, get_or, ap, ◌∙◌, arith, All, Contains, filter}
 use Rattle.std.proofs.lemmas.Bool.{and_from, eqb-true, lt-ltb, ltb-true}
 use Rattle.std.proofs.lemmas.Bool.Decides.{Decides-eqb}
 use Rattle.std.proofs.lemmas.List.Elements.{Contains-get_or, All-contains, All-filter, All-from_get_or, filter_passes}
@@ -14,7 +14,8 @@ use Rattle.value_lattice.specs.Passing.{words_below, passes_some}
 
 numbers_fit : (n : ℕ) → All (λ v. v < n) (range_with_len 0 n)
 numbers_fit n =
-    All-from_get_or (λ v. v < n) (range_with_len 0 n) 0 (λ i within. let inside : i < n = omega (arith, within, length-range_with_len 0 n) in omega (arith, inside, get_or-range_with_len 0 n i 0 inside))
+    All-from_get_or (λ v. v < n) (range_with_len 0 n) 0
+    (λ i within. let inside : i < n = omega (arith, within, length-range_with_len 0 n) in omega (arith, inside, get_or-range_with_len 0 n i 0 inside))
 
 numbers_rise : (n : ℕ) → IsStrictlyIncreasing (range_with_len 0 n)
 numbers_rise n k within =

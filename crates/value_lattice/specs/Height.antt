@@ -57,6 +57,7 @@ are_at_most (v ∷ vs) (u ∷ us) = is_at_most v u && are_at_most vs us
 -- most back, and the lists are the same.
 pub record HeightsOfListsRise : Type 0 where
   pub one : (t : List ℕ) (a b : Value) → is_over t a ≡ true → is_over t b ≡ true → is_at_most a b ≡ true → (height t a < height t b) ⊎ (is_at_most b a ≡ true)
-  pub rise : (t : List ℕ) (vs us : List Value) → list_all (is_over t) vs ≡ true → list_all (is_over t) us ≡ true → are_at_most vs us ≡ true → (heights t vs < heights t us) ⊎ (are_at_most us vs ≡ true)
+  pub rise : (t : List ℕ) (vs us : List Value) → list_all (is_over t) vs ≡ true → list_all (is_over t) us ≡ true → are_at_most vs us ≡ true
+      → (heights t vs < heights t us) ⊎ (are_at_most us vs ≡ true)
   pub same : (vs us : List Value) → are_at_most vs us ≡ true → are_at_most us vs ≡ true → vs ≡ us
   pub bound : (t : List ℕ) (vs : List Value) → list_all (is_over t) vs ≡ true → heights t vs ≤ length vs * (128 + length t)

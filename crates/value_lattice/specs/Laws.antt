@@ -27,6 +27,8 @@ pub record AreMore (t more : List ℕ) : Type 0 where
 
 -- over more thresholds, and of less, a value is at most what it was
 pub record MoreThresholdsRefine : Type 0 where
-  pub cover : (t more list wider : List ℕ) (v u : Value) → AreMore t more → ((w : ℕ) → Contains list w → Contains wider w) → IsLeast t (Contains wider) v → IsLeast more (Contains list) u → AtMost u v
-  pub span : (t more : List ℕ) (low high lower higher : ℕ) (v u : Value) → AreMore t more → ((w : ℕ) → IsBetween low high w → IsBetween lower higher w) → IsLeast t (IsBetween lower higher) v → IsLeast more (IsBetween low high) u → AtMost u v
+  pub cover : (t more list wider : List ℕ) (v u : Value) → AreMore t more → ((w : ℕ) → Contains list w → Contains wider w) → IsLeast t (Contains wider) v
+      → IsLeast more (Contains list) u → AtMost u v
+  pub span : (t more : List ℕ) (low high lower higher : ℕ) (v u : Value) → AreMore t more → ((w : ℕ) → IsBetween low high w → IsBetween lower higher w)
+      → IsLeast t (IsBetween lower higher) v → IsLeast more (IsBetween low high) u → AtMost u v
   pub join : (t more : List ℕ) (a b c d v u : Value) → AreMore t more → AtMost c a → AtMost d b → IsJoin t a b v → IsJoin more c d u → AtMost u v

@@ -1,6 +1,7 @@
 -- The least value over the thresholds with all words that a test passes, and what is made of it: what covers a
 -- list, what spans two places, and what is at least two values.
-use Rattle.std.specs.Prelude.{◌≡◌, ℕ, ◌^◌, ◌<◌, ◌≤◌, ◌&&◌, ◌||◌, Bool, true, false, eqb, Contains, List, [], ◌∷◌, length, Option, Some, None, ℤ, pos, negsuc, nat_le, if◌then◌else◌}
+use Rattle.std.specs.Prelude.{◌≡◌, ℕ, ◌^◌, ◌<◌, ◌≤◌, ◌&&◌, ◌||◌, Bool, true, false, eqb, Contains, List, [], ◌∷◌, length, Option, Some, None, pos}
+use Rattle.std.specs.Prelude.{negsuc, nat_le, if◌then◌else◌}
 use Rattle.std.specs.Set.{is_member}
 use Rattle.value_lattice.specs.Ends.{least_place, greatest_place}
 use Rattle.value_lattice.specs.Order.{number_at}
@@ -77,12 +78,17 @@ pub record JoinIsLeast : Type 0 where
   pub over : (t : List ℕ) (a b : Value) → IsThresholds t → is_over t a ≡ true → is_over t b ≡ true → is_over t (join t a b) ≡ true
   pub left : (t : List ℕ) (a b : Value) → IsThresholds t → is_over t a ≡ true → is_over t b ≡ true → is_at_most a (join t a b) ≡ true
   pub right : (t : List ℕ) (a b : Value) → IsThresholds t → is_over t a ≡ true → is_over t b ≡ true → is_at_most b (join t a b) ≡ true
-  pub least : (t : List ℕ) (a b u : Value) → IsThresholds t → is_over t a ≡ true → is_over t b ≡ true → is_over t u ≡ true → is_at_most a u ≡ true → is_at_most b u ≡ true → is_at_most (join t a b) u ≡ true
+  pub least : (t : List ℕ) (a b u : Value) → IsThresholds t → is_over t a ≡ true → is_over t b ≡ true → is_over t u ≡ true → is_at_most a u ≡ true
+      → is_at_most b u ≡ true → is_at_most (join t a b) u ≡ true
 
 -- Over more thresholds the functions give values that are at most what they gave over fewer: of a test that passes
 -- fewer words, a part of a list, places between the others, and values at most the others.
 pub record FunctionsFallWithThresholds : Type 0 where
-  pub least : (t more : List ℕ) (narrow wide : ℕ → Bool) → IsThresholds t → IsThresholds more → AreMore t more → ((w : ℕ) → w < 2 ^ 32 → narrow w ≡ true → wide w ≡ true) → is_less (least_of more narrow) (least_of t wide) ≡ true
-  pub cover : (t more list wider : List ℕ) (w : ℕ) → IsThresholds t → IsThresholds more → AreMore t more → w < 2 ^ 32 → Contains list w → ((v : ℕ) → Contains list v → Contains wider v) → is_at_most (cover more list) (cover t wider) ≡ true
-  pub span : (t more : List ℕ) (low high lower higher : ℕ) → IsThresholds t → IsThresholds more → AreMore t more → low ≤ high → low < 2 ^ 32 → lower ≤ low → high ≤ higher → is_at_most (span more low high) (span t lower higher) ≡ true
-  pub join : (t more : List ℕ) (a b c d : Value) → IsThresholds t → IsThresholds more → AreMore t more → is_over t a ≡ true → is_over t b ≡ true → is_over more c ≡ true → is_over more d ≡ true → is_at_most c a ≡ true → is_at_most d b ≡ true → is_at_most (join more c d) (join t a b) ≡ true
+  pub least : (t more : List ℕ) (narrow wide : ℕ → Bool) → IsThresholds t → IsThresholds more → AreMore t more
+      → ((w : ℕ) → w < 2 ^ 32 → narrow w ≡ true → wide w ≡ true) → is_less (least_of more narrow) (least_of t wide) ≡ true
+  pub cover : (t more list wider : List ℕ) (w : ℕ) → IsThresholds t → IsThresholds more → AreMore t more → w < 2 ^ 32 → Contains list w
+      → ((v : ℕ) → Contains list v → Contains wider v) → is_at_most (cover more list) (cover t wider) ≡ true
+  pub span : (t more : List ℕ) (low high lower higher : ℕ) → IsThresholds t → IsThresholds more → AreMore t more → low ≤ high → low < 2 ^ 32 → lower ≤ low
+      → high ≤ higher → is_at_most (span more low high) (span t lower higher) ≡ true
+  pub join : (t more : List ℕ) (a b c d : Value) → IsThresholds t → IsThresholds more → AreMore t more → is_over t a ≡ true → is_over t b ≡ true
+      → is_over more c ≡ true → is_over more d ≡ true → is_at_most c a ≡ true → is_at_most d b ≡ true → is_at_most (join more c d) (join t a b) ≡ true

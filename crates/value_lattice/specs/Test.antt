@@ -1,5 +1,5 @@
 -- Tests that decide what is said of values: each is true exactly where the relation of its name holds.
-use Rattle.std.specs.Prelude.{◌≡◌, ℕ, ◌+◌, ◌^◌, ◌<◌, ◌≤◌, ◌↔◌, ◌&&◌, Bool, true, false, eqb, List, [], ◌∷◌, Option, Some, None, ℤ, pos, negsuc, nat_lt, nat_le}
+use Rattle.std.specs.Prelude.{◌≡◌, ℕ, ◌+◌, ◌^◌, ◌<◌, ◌↔◌, ◌&&◌, Bool, true, false, eqb, List, [], ◌∷◌, Option, Some, None, ℤ, pos, negsuc, nat_lt, nat_le}
 use Rattle.std.specs.List.{list_all}
 use Rattle.std.specs.Set.{is_member}
 use Rattle.value_lattice.specs.Order.{place_of, rank_of}

@@ -1,5 +1,5 @@
 -- Thresholds, as the places of numbers with sign.
-use Rattle.std.specs.Prelude.{◌≡◌, ℕ, ◌^◌, ◌<◌, ◌⊎◌, ◌||◌, Bool, eqb, List, [], ◌∷◌, ℤ, map, All, Contains, pos, negsuc}
+use Rattle.std.specs.Prelude.{ℕ, ◌^◌, ◌<◌, ◌⊎◌, ◌||◌, Bool, eqb, List, [], ◌∷◌, ℤ, map, All, Contains, pos, negsuc}
 use Rattle.std.specs.List.Sorted.{IsStrictlyIncreasing}
 use Rattle.std.specs.Set.{is_member}
 use Rattle.value_lattice.specs.Order.{rank_of}

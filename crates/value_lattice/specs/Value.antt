@@ -1,5 +1,5 @@
 -- What a value stands for, the order of values, and the least value of a kind.
-use Rattle.std.specs.Prelude.{◌==◌, ◌≡◌, ℕ, ◌+◌, ◌^◌, ◌<◌, ◌≤◌, ◌&&◌, Bool, true, false, List, [], ◌∷◌, Option, Some, None, Contains, FitsSigned, nat_lt, nat_le}
+use Rattle.std.specs.Prelude.{◌==◌, ◌≡◌, ℕ, ◌+◌, ◌^◌, ◌<◌, ◌≤◌, Bool, true, false, List, [], ◌∷◌, Option, Some, None, Contains, FitsSigned}
 use Rattle.std.specs.Int.{w32}
 use Rattle.value_lattice.specs.Order.{place_of, rank_of}
 use Rattle.value_lattice.specs.Set.{IsSet}

@@ -8,9 +8,8 @@ ghost use Rattle.value_lattice.specs.Least.{cover, span};
 use crate::ends::ends_of;
 use crate::order::{rank, word_at_place};
 use crate::rounding::range_between;
-use crate::sorting::put_in_order;
 use crate::{Thresholds, Value, Words};
-use bt_base::Want;
+use bt_base::{Want, put_in_order};
 use std::alloc::Global;
 
 /// The most words that a set has.

@@ -5,9 +5,9 @@ ghost use Rattle.value_lattice.specs.Least.{join};
 
 use crate::covering::cover_rising;
 use crate::ends::ends_of;
+use crate::merging::merge;
 use crate::order::rank;
 use crate::rounding::range_between;
-use crate::sorting::merge;
 use crate::{Thresholds, Value, Words};
 use bt_base::Want;
 use std::alloc::Global;

@@ -7,9 +7,9 @@ mod covering;
 mod ends;
 mod joining;
 mod laws;
+mod merging;
 mod order;
 mod rounding;
-mod sorting;
 mod thresholds;
 mod value;
 mod words;
@@ -25,6 +25,3 @@ pub use order::{number_at_place, place, rank, word_at_place};
 pub use thresholds::Thresholds;
 pub use value::Value;
 pub use words::Words;
-
-#[cfg(test)]
-mod tests;

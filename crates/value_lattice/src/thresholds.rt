@@ -1,10 +1,10 @@
-ghost use Rattle.std.specs.Prelude.{◌≡◌, ℕ, ◌++◌, IfOk, OnOk, Contains, length, map};
+ghost use Rattle.std.specs.Prelude.{◌≡◌, ℕ, ◌++◌, ◌^◌, ◌<◌, IfOk, OnOk, All, Contains, length, map};
+ghost use Rattle.std.specs.List.Sorted.{IsStrictlyIncreasing};
 ghost use Rattle.value_lattice.specs.Order.{rank_of};
 ghost use Rattle.value_lattice.specs.Thresholds.{IsThresholds, Widens, constants, widen};
 
 use crate::order::rank;
-use crate::sorting::put_in_order;
-use bt_base::Want;
+use bt_base::{Want, put_in_order};
 use std::alloc::Global;
 use std::marker::Model;
 
@@ -51,6 +51,16 @@ fn extend(places: &mut Vec<u32>, numbers: &[i32]) -> Result<(), Want>
     Ok(())
 }
 
+/// Puts places in order, each once.
+fn put_places_in_order(places: &mut Vec<u32>)
+    ensures rising { IsStrictlyIncreasing places.new.items }
+    ensures fits { All (λ k. k < 2 ^ 32) places.new.items }
+    ensures keeps { (k : ℕ) → Contains places.old.items k → Contains places.new.items k }
+    ensures adds_none { (k : ℕ) → Contains places.new.items k → Contains places.old.items k }
+{
+    put_in_order(places);
+}
+
 /// The thresholds at these places and at those of a list.
 fn with_numbers(mut places: Vec<u32>, list: &[i32]) -> Result<Thresholds, Want>
     requires least { Contains places.items 0 }
@@ -59,7 +69,7 @@ fn with_numbers(mut places: Vec<u32>, list: &[i32]) -> Result<Thresholds, Want>
     ensures value { IfOk result (λ t. t ≡ widen places.items list.now) }
 {
     extend(&mut places, list)?;
-    put_in_order(&mut places);
+    put_places_in_order(&mut places);
     Ok(Thresholds { places })
 }
 

@@ -2,8 +2,7 @@ ghost use Rattle.std.specs.Prelude.{◌≡◌, ◌∷◌, [], ◌↔◌, IsTrue,
 ghost use Rattle.value_lattice.specs.Set.{IsSet};
 ghost use Rattle.value_lattice.specs.Value.{one_in};
 
-use crate::sorting::has;
-use bt_base::Want;
+use bt_base::{Want, has};
 use std::alloc::Global;
 use std::marker::Model;
 use std::slice;

@@ -1,5 +1,6 @@
 -- Operations on values cover the results on words, and are monotone.
-use Rattle.std.proofs.Common.{◌≡◌, ℕ, zero, suc, ◌%◌, ◌^◌, ◌<◌, ◌≤◌, ◌⊎◌, ◌&&◌, Bool, true, false, cond, List, [], ◌∷◌, Option, Some, None, MatchOption, refl, sym, ap, subst, ◌∙◌, inl, inr, arith, All, Contains}
+use Rattle.std.proofs.Common.{◌≡◌, ℕ, zero, suc, ◌%◌, ◌^◌, ◌<◌, ◌≤◌, ◌⊎◌, ◌&&◌, Bool, true, false, cond, List, [], ◌∷◌, Option, Some, None, MatchOption}
+use Rattle.std.proofs.Common.{refl, sym, ap, subst, ◌∙◌, inl, inr, arith, All, Contains}
 use Rattle.std.specs.Prelude.{bit_and, bit_or, bit_xor}
 use Rattle.std.specs.List.Sorted.{IsStrictlyIncreasing}
 use Rattle.std.proofs.Math.Nat.{div-le_self}
@@ -21,7 +22,9 @@ use Rattle.value_ops.specs.Row.{IsFilled, all, shifts, row_of, left_shifts, righ
 use Rattle.value_ops.specs.declared.op.Op.{Op}
 use Rattle.value_ops.specs.declared.op.Op.TheVariants.{Add, Sub, And, Or, Xor, Andn, Orn, Xnor, Sll, Srl, Sra, Addx, Subx, Mul}
 use Rattle.value_ops.specs.declared.rows.Span.{Span}
-use Rattle.value_ops.proofs.RowLemmas.{IsIn, IsWider, in_all, all_is_wider, in_sums, in_differences, in_conjunctions, in_left_conjunctions, in_left_shifts, in_right_shifts, in_signed_shifts, sums_widen, differences_widen, conjunctions_widen, left_conjunctions_widen, left_shifts_widen, right_shifts_widen, signed_shifts_widen, left_shifts_fit, right_shifts_fit, signed_shifts_fit}
+use Rattle.value_ops.proofs.RowLemmas.{IsIn, IsWider, in_all, all_is_wider, in_sums, in_differences, in_conjunctions, in_left_conjunctions, in_left_shifts}
+use Rattle.value_ops.proofs.RowLemmas.{in_right_shifts, in_signed_shifts, sums_widen, differences_widen, conjunctions_widen, left_conjunctions_widen}
+use Rattle.value_ops.proofs.RowLemmas.{left_shifts_widen, right_shifts_widen, signed_shifts_widen, left_shifts_fit, right_shifts_fit, signed_shifts_fit}
 use Rattle.value_ops.proofs.ProductLemmas.{in_products, products_widen}
 use Rattle.word_ops.specs.Word.{sum_of, difference_of, complement_of, bit_of, shifted_left, shifted_right, shifted_right_signed}
 
@@ -62,18 +65,22 @@ zero_word : (v : Value) (y ra : ℕ) → is_zero v ≡ true → Has v y ra → y
 zero_word v y ra is has = one_word v y ra 0 (zero_is_one (one_of v) is) has
 
 -- the results of words are in the row of their spans
-shift_in : (by : ℕ → Span → Span) (of : ℕ → ℕ → ℕ) (o : Option ℕ) (a : Span) (x y : ℕ) → ((n : ℕ) → o ≡ Some n → y ≡ n) → ((n : ℕ) → IsIn (by (n % 32) a) (of x n)) → IsIn (shifts by o a) (of x y)
+shift_in : (by : ℕ → Span → Span) (of : ℕ → ℕ → ℕ) (o : Option ℕ) (a : Span) (x y : ℕ) → ((n : ℕ) → o ≡ Some n → y ≡ n)
+    → ((n : ℕ) → IsIn (by (n % 32) a) (of x n)) → IsIn (shifts by o a) (of x y)
 shift_in by of None a x y one each = in_all (of x y)
 shift_in by of (Some n) a x y one each = subst (λ (m : ℕ). IsIn (by (n % 32) a) (of x m)) (sym (one n refl)) (each n)
 
-pub row_covers : (op : Op) (o : Option ℕ) (a b : Span) (carry : Bool) (x y : ℕ) → a.high < 2 ^ 32 → b.high < 2 ^ 32 → x < 2 ^ 32 → y < 2 ^ 32 → IsIn a x → IsIn b y → ((n : ℕ) → o ≡ Some n → y ≡ n) → IsIn (row_of op o a b) (result_of op carry x y)
+pub row_covers : (op : Op) (o : Option ℕ) (a b : Span) (carry : Bool) (x y : ℕ) → a.high < 2 ^ 32 → b.high < 2 ^ 32 → x < 2 ^ 32 → y < 2 ^ 32 → IsIn a x
+    → IsIn b y → ((n : ℕ) → o ≡ Some n → y ≡ n) → IsIn (row_of op o a b) (result_of op carry x y)
 row_covers Add o a b carry x y fa fb xw yw in_a in_b one = in_sums a b x y xw yw in_a in_b
 row_covers Sub o a b carry x y fa fb xw yw in_a in_b one = in_differences a b x y xw yw in_a in_b
 row_covers And o a b carry x y fa fb xw yw in_a in_b one = in_conjunctions a b x y xw yw in_a in_b
 row_covers Andn o a b carry x y fa fb xw yw in_a in_b one = in_left_conjunctions a x (complement_of y) xw in_a
 row_covers Sll o a b carry x y fa fb xw yw in_a in_b one = shift_in left_shifts shifted_left o a x y one (λ n. in_left_shifts (n % 32) a x xw in_a)
-row_covers Srl o a b carry x y fa fb xw yw in_a in_b one = shift_in right_shifts shifted_right o a x y one (λ n. in_right_shifts (n % 32) a x (omega arith) xw in_a)
-row_covers Sra o a b carry x y fa fb xw yw in_a in_b one = shift_in signed_shifts shifted_right_signed o a x y one (λ n. in_signed_shifts (n % 32) a x (omega arith) in_a)
+row_covers Srl o a b carry x y fa fb xw yw in_a in_b one = shift_in right_shifts shifted_right o a x y one
+    (λ n. in_right_shifts (n % 32) a x (omega arith) xw in_a)
+row_covers Sra o a b carry x y fa fb xw yw in_a in_b one = shift_in signed_shifts shifted_right_signed o a x y one
+    (λ n. in_signed_shifts (n % 32) a x (omega arith) in_a)
 row_covers Or o a b carry x y fa fb xw yw in_a in_b one = in_all (result_of Or carry x y)
 row_covers Xor o a b carry x y fa fb xw yw in_a in_b one = in_all (result_of Xor carry x y)
 row_covers Orn o a b carry x y fa fb xw yw in_a in_b one = in_all (result_of Orn carry x y)
@@ -86,26 +93,35 @@ row_covers Mul o a b carry x y fa fb xw yw in_a in_b one = in_products a b x y f
 pub in_span : (v : Value) (s : Span) (x ra : ℕ) → AreEnds v s.low s.high → x < 2 ^ 32 → Has v x ra → IsIn s x
 in_span v s x ra ends word has = let between = between_ends v s.low s.high x ra ends word has in record { above = between.0; below = between.1 }
 
-spanned_covers : (t : List ℕ) (op : Op) (a b v : Value) (x y ra : ℕ) → IsSpanned t op a b v → x < 2 ^ 32 → y < 2 ^ 32 → ra < 2 ^ 32 → Has a x ra → Has b y ra → Has v (result_of op false x y) ra
+spanned_covers : (t : List ℕ) (op : Op) (a b v : Value) (x y ra : ℕ) → IsSpanned t op a b v → x < 2 ^ 32 → y < 2 ^ 32 → ra < 2 ^ 32 → Has a x ra → Has b y ra
+    → Has v (result_of op false x y) ra
 spanned_covers t op a b v x y ra s xw yw address has_x has_y =
-    let within : IsIn (row_of op (one_of b) s.from s.by) (result_of op false x y) = row_covers op (one_of b) s.from s.by false x y s.left_word s.right_word xw yw (in_span a s.from x ra s.left xw has_x) (in_span b s.by y ra s.right yw has_y) (λ n is. one_word b y ra n is has_y) in
+    let within : IsIn (row_of op (one_of b) s.from s.by) (result_of op false x y) = row_covers op (one_of b) s.from s.by false x y s.left_word s.right_word xw
+    yw (in_span a s.from x ra s.left xw has_x) (in_span b s.by y ra s.right yw has_y) (λ n is. one_word b y ra n is has_y) in
     s.span.each.words (result_of op false x y) ra (result_is_word op false x y xw yw) address (within.above, within.below)
 
-computed_covers : (t : List ℕ) (op : Op) (a b v : Value) (x y ra : ℕ) → IsComputed t op a b v → x < 2 ^ 32 → y < 2 ^ 32 → ra < 2 ^ 32 → Has a x ra → Has b y ra → Has v (result_of op false x y) ra
+computed_covers : (t : List ℕ) (op : Op) (a b v : Value) (x y ra : ℕ) → IsComputed t op a b v → x < 2 ^ 32 → y < 2 ^ 32 → ra < 2 ^ 32 → Has a x ra
+    → Has b y ra → Has v (result_of op false x y) ra
 computed_covers t op (Words xs) (Words ys) v x y ra least xw yw address has_x has_y =
-    least.each.words (result_of op false x y) ra (result_is_word op false x y xw yw) address (record { first = x; second = y; left = has_x; right = has_y; is = refl })
-computed_covers t op (Words xs) (Range lo hi) v x y ra s xw yw address has_x has_y = spanned_covers t op (Words xs) (Range lo hi) v x y ra s xw yw address has_x has_y
+    least.each.words (result_of op false x y) ra (result_is_word op false x y xw yw) address
+    (record { first = x; second = y; left = has_x; right = has_y; is = refl })
+computed_covers t op (Words xs) (Range lo hi) v x y ra s xw yw address has_x has_y = spanned_covers t op (Words xs)
+    (Range lo hi) v x y ra s xw yw address has_x has_y
 computed_covers t op (Words xs) Ret v x y ra s xw yw address has_x has_y = spanned_covers t op (Words xs) Ret v x y ra s xw yw address has_x has_y
 computed_covers t op (Range lo hi) b v x y ra s xw yw address has_x has_y = spanned_covers t op (Range lo hi) b v x y ra s xw yw address has_x has_y
 computed_covers t op Ret b v x y ra s xw yw address has_x has_y = spanned_covers t op Ret b v x y ra s xw yw address has_x has_y
 
 -- what a step came by
-copy_cases : {V : Type 0} (l r : Bool) (a b v : V) (C : Type 0) → MatchOption (cond l (Some a) (cond r (Some b) None)) C (λ c. v ≡ c) → ((l ≡ true) × (v ≡ a)) ⊎ (((r ≡ true) × (v ≡ b)) ⊎ ((l ≡ false) × (r ≡ false) × C))
+copy_cases : {V : Type 0} (l r : Bool) (a b v : V) (C : Type 0) → MatchOption (cond l (Some a) (cond r (Some b) None)) C (λ c. v ≡ c)
+    → ((l ≡ true) × (v ≡ a)) ⊎ (((r ≡ true) × (v ≡ b)) ⊎ ((l ≡ false) × (r ≡ false) × C))
 copy_cases true r a b v C h = inl (refl, h)
 copy_cases false true a b v C h = inr (inl (refl, h))
 copy_cases false false a b v C h = inr (inr (refl, refl, h))
 
-pub step_cases : (t : List ℕ) (op : Op) (a b v : Value) → IsStep t op a b v → (((copies_left op && is_zero b) ≡ true) × (v ≡ a)) ⊎ ((((copies_right op && is_zero a) ≡ true) × (v ≡ b)) ⊎ (((copies_left op && is_zero b) ≡ false) × ((copies_right op && is_zero a) ≡ false) × IsComputed t op a b v))
+pub step_cases : (t : List ℕ) (op : Op) (a b v : Value) → IsStep t op a b v
+    → (((copies_left op && is_zero b) ≡ true) × (v ≡ a)) ⊎
+    ((((copies_right op && is_zero a) ≡ true) × (v ≡ b)) ⊎ (((copies_left op && is_zero b) ≡ false) × ((copies_right op && is_zero a) ≡ false) × IsComputed t
+    op a b v))
 step_cases t op a b v step = copy_cases (copies_left op && is_zero b) (copies_right op && is_zero a) a b v (IsComputed t op a b v) step
 
 or_zero : (x : ℕ) → bit_or x 0 ≡ x
@@ -146,7 +162,8 @@ right_stays Addx y copies word = absurd (false≢true copies)
 right_stays Subx y copies word = absurd (false≢true copies)
 right_stays Mul y copies word = absurd (false≢true copies)
 
-pub step_covers : (t : List ℕ) (op : Op) (a b v : Value) (x y ra : ℕ) → IsStep t op a b v → x < 2 ^ 32 → y < 2 ^ 32 → ra < 2 ^ 32 → Has a x ra → Has b y ra → Has v (result_of op false x y) ra
+pub step_covers : (t : List ℕ) (op : Op) (a b v : Value) (x y ra : ℕ) → IsStep t op a b v → x < 2 ^ 32 → y < 2 ^ 32 → ra < 2 ^ 32 → Has a x ra → Has b y ra
+    → Has v (result_of op false x y) ra
 step_covers t op a b v x y ra step xw yw address has_x has_y =
     elim (step_cases t op a b v step) [
       | inl left ↦
@@ -206,11 +223,14 @@ bit_is_word : (carry : Bool) → bit_of carry < 2 ^ 32
 bit_is_word false = omega arith
 bit_is_word true = omega arith
 
-pub twice_covers : (t : List ℕ) (op : Op) (a b v : Value) (carry : Bool) (x y ra : ℕ) → IsTwice t op a b v → x < 2 ^ 32 → y < 2 ^ 32 → ra < 2 ^ 32 → Has a x ra → Has b y ra → Has v (result_of op false (result_of op false x y) (bit_of carry)) ra
+pub twice_covers : (t : List ℕ) (op : Op) (a b v : Value) (carry : Bool) (x y ra : ℕ) → IsTwice t op a b v → x < 2 ^ 32 → y < 2 ^ 32 → ra < 2 ^ 32
+    → Has a x ra → Has b y ra → Has v (result_of op false (result_of op false x y) (bit_of carry)) ra
 twice_covers t op a b v carry x y ra twice xw yw address has_x has_y =
-    step_covers t op twice.between (Words (0 ∷ 1 ∷ [])) v (result_of op false x y) (bit_of carry) ra twice.second (result_is_word op false x y xw yw) (bit_is_word carry) address (step_covers t op a b twice.between x y ra twice.first xw yw address has_x has_y) (has_carry carry)
+    step_covers t op twice.between (Words (0 ∷ 1 ∷ [])) v (result_of op false x y) (bit_of carry) ra twice.second (result_is_word op false x y xw yw)
+    (bit_is_word carry) address (step_covers t op a b twice.between x y ra twice.first xw yw address has_x has_y) (has_carry carry)
 
-pub applied_covers : (t : List ℕ) (op : Op) (a b v : Value) (carry : Bool) (x y ra : ℕ) → IsOver t a → IsOver t b → IsApplied t op a b v → x < 2 ^ 32 → y < 2 ^ 32 → ra < 2 ^ 32 → Has a x ra → Has b y ra → Has v (result_of op carry x y) ra
+pub applied_covers : (t : List ℕ) (op : Op) (a b v : Value) (carry : Bool) (x y ra : ℕ) → IsOver t a → IsOver t b → IsApplied t op a b v → x < 2 ^ 32
+    → y < 2 ^ 32 → ra < 2 ^ 32 → Has a x ra → Has b y ra → Has v (result_of op carry x y) ra
 applied_covers t Add a b v carry x y ra over_a over_b step xw yw address has_x has_y = step_covers t Add a b v x y ra step xw yw address has_x has_y
 applied_covers t Sub a b v carry x y ra over_a over_b step xw yw address has_x has_y = step_covers t Sub a b v x y ra step xw yw address has_x has_y
 applied_covers t And a b v carry x y ra over_a over_b step xw yw address has_x has_y = step_covers t And a b v x y ra step xw yw address has_x has_y
@@ -222,9 +242,11 @@ applied_covers t Xnor a b v carry x y ra over_a over_b step xw yw address has_x 
 applied_covers t Sll a b v carry x y ra over_a over_b step xw yw address has_x has_y = step_covers t Sll a b v x y ra step xw yw address has_x has_y
 applied_covers t Srl a b v carry x y ra over_a over_b step xw yw address has_x has_y = step_covers t Srl a b v x y ra step xw yw address has_x has_y
 applied_covers t Sra a b v carry x y ra over_a over_b step xw yw address has_x has_y = step_covers t Sra a b v x y ra step xw yw address has_x has_y
-applied_covers t Addx a b v carry x y ra over_a over_b twice xw yw address has_x has_y = subst (λ (w : ℕ). Has v w ra) (carried_sum carry x y) (twice_covers t Add a b v carry x y ra twice xw yw address has_x has_y)
+applied_covers t Addx a b v carry x y ra over_a over_b twice xw yw address has_x has_y = subst (λ (w : ℕ). Has v w ra) (carried_sum carry x y)
+    (twice_covers t Add a b v carry x y ra twice xw yw address has_x has_y)
 applied_covers t Mul a b v carry x y ra over_a over_b step xw yw address has_x has_y = step_covers t Mul a b v x y ra step xw yw address has_x has_y
-applied_covers t Subx a b v carry x y ra over_a over_b twice xw yw address has_x has_y = subst (λ (w : ℕ). Has v w ra) (carried_difference carry x y xw yw) (twice_covers t Sub a b v carry x y ra twice xw yw address has_x has_y)
+applied_covers t Subx a b v carry x y ra over_a over_b twice xw yw address has_x has_y = subst (λ (w : ℕ). Has v w ra) (carried_difference carry x y xw yw)
+    (twice_covers t Sub a b v carry x y ra twice xw yw address has_x has_y)
 
 -- monotone
 
@@ -257,7 +279,8 @@ no_sets_below (Words xs) (Words ys) c d va vb vc vd left right apart =
     elim (set_below c xs vc va left) [
       | words_are cs c_is ↦
           elim (set_below d ys vd vb right) [
-            | words_are ds d_is ↦ absurd (true≢false (ap (λ (v : Value). are_sets (Words cs) v) (sym d_is) ∙ ap (λ (v : Value). are_sets v d) (sym c_is) ∙ apart))
+            | words_are ds d_is ↦ absurd
+                (true≢false (ap (λ (v : Value). are_sets (Words cs) v) (sym d_is) ∙ ap (λ (v : Value). are_sets v d) (sym c_is) ∙ apart))
           ]
     ]
 no_sets_below (Words xs) (Range lo hi) c d va vb vc vd left right apart = refl
@@ -290,7 +313,8 @@ zero_below : (d b : Value) → IsValue d → IsValue b → AtMost d b → is_zer
 zero_below d b vd vb below is = ap is_zero_word (one_below d b 0 vd vb below (zero_is_one (one_of b) is))
 
 -- the ends of what is at most a value are between its own
-ends_widen : (t : List ℕ) (a c : Value) (low high least greatest : ℕ) → IsValue a → IsOver t c → AtMost c a → AreEnds c low high → high < 2 ^ 32 → low ≤ high → AreEnds a least greatest → (least ≤ low) × (high ≤ greatest)
+ends_widen : (t : List ℕ) (a c : Value) (low high least greatest : ℕ) → IsValue a → IsOver t c → AtMost c a → AreEnds c low high → high < 2 ^ 32 → low ≤ high
+    → AreEnds a least greatest → (least ≤ low) × (high ≤ greatest)
 ends_widen t (Words xs) c low high least greatest va oc below ends fits filled wide =
     elim (set_below c xs oc.value va below) [
       | words_are ws is ↦
@@ -316,19 +340,25 @@ ends_filled (Range lo hi) low high value ends = omega (arith, ends, value.2)
 ends_filled Ret low high value ends = omega (arith, ends)
 
 -- wider spans give wider rows
-shifts_widen : (by : ℕ → Span → Span) (wide narrow : Option ℕ) (a c : Span) → ((n : ℕ) → wide ≡ Some n → narrow ≡ Some n) → ((n : ℕ) → IsWider (by (n % 32) c) (by (n % 32) a)) → ((n : ℕ) → (by (n % 32) c).high < 2 ^ 32) → IsWider (shifts by narrow c) (shifts by wide a)
+shifts_widen : (by : ℕ → Span → Span) (wide narrow : Option ℕ) (a c : Span) → ((n : ℕ) → wide ≡ Some n → narrow ≡ Some n)
+    → ((n : ℕ) → IsWider (by (n % 32) c) (by (n % 32) a)) → ((n : ℕ) → (by (n % 32) c).high < 2 ^ 32) → IsWider (shifts by narrow c) (shifts by wide a)
 shifts_widen by None None a c same each fits = all_is_wider all (omega arith)
 shifts_widen by None (Some n) a c same each fits = all_is_wider (by (n % 32) c) (fits n)
 shifts_widen by (Some n) narrow a c same each fits = rw (same n refl) (each n)
 
-row_widens : (op : Op) (wide narrow : Option ℕ) (a b c d : Span) → ((n : ℕ) → wide ≡ Some n → narrow ≡ Some n) → IsFilled a → IsFilled b → IsFilled c → IsFilled d → a.high < 2 ^ 32 → b.high < 2 ^ 32 → c.high < 2 ^ 32 → d.high < 2 ^ 32 → IsWider c a → IsWider d b → IsWider (row_of op narrow c d) (row_of op wide a b)
+row_widens : (op : Op) (wide narrow : Option ℕ) (a b c d : Span) → ((n : ℕ) → wide ≡ Some n → narrow ≡ Some n) → IsFilled a → IsFilled b → IsFilled c
+    → IsFilled d → a.high < 2 ^ 32 → b.high < 2 ^ 32 → c.high < 2 ^ 32 → d.high < 2 ^ 32 → IsWider c a → IsWider d b
+    → IsWider (row_of op narrow c d) (row_of op wide a b)
 row_widens Add wide narrow a b c d same fa fb fc fd wa wb wc wd ca db = sums_widen a b c d fa fb fc fd ca db
 row_widens Sub wide narrow a b c d same fa fb fc fd wa wb wc wd ca db = differences_widen a b c d fa fb fc fd ca db
 row_widens And wide narrow a b c d same fa fb fc fd wa wb wc wd ca db = conjunctions_widen a b c d wc wd ca db
 row_widens Andn wide narrow a b c d same fa fb fc fd wa wb wc wd ca db = left_conjunctions_widen a c wc ca
-row_widens Sll wide narrow a b c d same fa fb fc fd wa wb wc wd ca db = shifts_widen left_shifts wide narrow a c same (λ n. left_shifts_widen (n % 32) a c fc ca) (λ n. left_shifts_fit (n % 32) c)
-row_widens Srl wide narrow a b c d same fa fb fc fd wa wb wc wd ca db = shifts_widen right_shifts wide narrow a c same (λ n. right_shifts_widen (n % 32) a c (omega arith) fc wc ca) (λ n. right_shifts_fit (n % 32) c wc)
-row_widens Sra wide narrow a b c d same fa fb fc fd wa wb wc wd ca db = shifts_widen signed_shifts wide narrow a c same (λ n. signed_shifts_widen (n % 32) a c ca) (λ n. signed_shifts_fit (n % 32) c (omega arith) wc)
+row_widens Sll wide narrow a b c d same fa fb fc fd wa wb wc wd ca db = shifts_widen left_shifts wide narrow a c same
+    (λ n. left_shifts_widen (n % 32) a c fc ca) (λ n. left_shifts_fit (n % 32) c)
+row_widens Srl wide narrow a b c d same fa fb fc fd wa wb wc wd ca db = shifts_widen right_shifts wide narrow a c same
+    (λ n. right_shifts_widen (n % 32) a c (omega arith) fc wc ca) (λ n. right_shifts_fit (n % 32) c wc)
+row_widens Sra wide narrow a b c d same fa fb fc fd wa wb wc wd ca db = shifts_widen signed_shifts wide narrow a c same
+    (λ n. signed_shifts_widen (n % 32) a c ca) (λ n. signed_shifts_fit (n % 32) c (omega arith) wc)
 row_widens Or wide narrow a b c d same fa fb fc fd wa wb wc wd ca db = all_is_wider all (omega arith)
 row_widens Xor wide narrow a b c d same fa fb fc fd wa wb wc wd ca db = all_is_wider all (omega arith)
 row_widens Orn wide narrow a b c d same fa fb fc fd wa wb wc wd ca db = all_is_wider all (omega arith)
@@ -338,7 +368,8 @@ row_widens Subx wide narrow a b c d same fa fb fc fd wa wb wc wd ca db = all_is_
 row_widens Mul wide narrow a b c d same fa fb fc fd wa wb wc wd ca db = products_widen a b c d wa wb fc fd ca db
 
 -- two results computed from ends
-spanned_is_monotone : (t more : List ℕ) (op : Op) (a b c d v u : Value) → AreMore t more → IsOver t a → IsOver t b → IsOver more c → IsOver more d → AtMost c a → AtMost d b → IsSpanned t op a b v → IsSpanned more op c d u → AtMost u v
+spanned_is_monotone : (t more : List ℕ) (op : Op) (a b c d v u : Value) → AreMore t more → IsOver t a → IsOver t b → IsOver more c → IsOver more d
+    → AtMost c a → AtMost d b → IsSpanned t op a b v → IsSpanned more op c d u → AtMost u v
 spanned_is_monotone t more op a b c d v u in_more oa ob oc od left right wide narrow =
     let fc : narrow.from.low ≤ narrow.from.high = ends_filled c narrow.from.low narrow.from.high oc.value narrow.left in
     let fd : narrow.by.low ≤ narrow.by.high = ends_filled d narrow.by.low narrow.by.high od.value narrow.right in
@@ -347,30 +378,42 @@ spanned_is_monotone t more op a b c d v u in_more oa ob oc od left right wide na
     let ca = ends_widen more a c narrow.from.low narrow.from.high wide.from.low wide.from.high oa.value oc left narrow.left narrow.left_word fc wide.left in
     let db = ends_widen more b d narrow.by.low narrow.by.high wide.by.low wide.by.high ob.value od right narrow.right narrow.right_word fd wide.right in
     let wider : IsWider (row_of op (one_of d) narrow.from narrow.by) (row_of op (one_of b) wide.from wide.by) =
-    row_widens op (one_of b) (one_of d) wide.from wide.by narrow.from narrow.by (λ n is. one_below d b n od.value ob.value right is) fa fb fc fd wide.left_word wide.right_word narrow.left_word narrow.right_word (record { low = ca.0; high = ca.1 }) (record { low = db.0; high = db.1 }) in
+    row_widens op (one_of b) (one_of d) wide.from wide.by narrow.from narrow.by
+    (λ n is. one_below d b n od.value ob.value right is) fa fb fc fd wide.left_word wide.right_word narrow.left_word narrow.right_word
+    (record { low = ca.0; high = ca.1 }) (record { low = db.0; high = db.1 }) in
     narrow.span.least v (over_more t more v in_more.thresholds wide.span.over)
-    (record { words = λ w ra word address between. wide.span.each.words w ra word address (omega (arith, between, wider.low), omega (arith, between, wider.high)) })
+    (record {
+      words = λ w ra word address between. wide.span.each.words w ra word address
+          (omega (arith, between, wider.low), omega (arith, between, wider.high));
+    })
 
 -- a result for words of two sets is in what is computed from more
-pointwise_in : {more : List ℕ} (t : List ℕ) (op : Op) (a b v : Value) (xs ys : List ℕ) (w ra : ℕ) → IsOver more (Words xs) → IsOver more (Words ys) → AtMost (Words xs) a → AtMost (Words ys) b → IsComputed t op a b v → ra < 2 ^ 32 → IsPointwise op xs ys w → Has v w ra
+pointwise_in : {more : List ℕ} (t : List ℕ) (op : Op) (a b v : Value) (xs ys : List ℕ) (w ra : ℕ) → IsOver more (Words xs) → IsOver more (Words ys)
+    → AtMost (Words xs) a → AtMost (Words ys) b → IsComputed t op a b v → ra < 2 ^ 32 → IsPointwise op xs ys w → Has v w ra
 pointwise_in t op a b v xs ys w ra oc od left right wide address pair =
     let x_word : pair.first < 2 ^ 32 = All-contains (λ w. w < 2 ^ 32) xs pair.first oc.value.fits pair.left in
     let y_word : pair.second < 2 ^ 32 = All-contains (λ w. w < 2 ^ 32) ys pair.second od.value.fits pair.right in
-    subst (λ (r : ℕ). Has v r ra) (sym pair.is) (computed_covers t op a b v pair.first pair.second ra wide x_word y_word address (left.words pair.first ra x_word address pair.left) (right.words pair.second ra y_word address pair.right))
+    subst (λ (r : ℕ). Has v r ra) (sym pair.is) (computed_covers t op a b v pair.first pair.second ra wide x_word y_word address
+    (left.words pair.first ra x_word address pair.left) (right.words pair.second ra y_word address pair.right))
 
 -- a result computed from two values is at most one computed from others
-computed_is_monotone : (t more : List ℕ) (op : Op) (a b c d v u : Value) → AreMore t more → IsOver t a → IsOver t b → IsOver more c → IsOver more d → AtMost c a → AtMost d b → IsComputed t op a b v → IsComputed more op c d u → AtMost u v
+computed_is_monotone : (t more : List ℕ) (op : Op) (a b c d v u : Value) → AreMore t more → IsOver t a → IsOver t b → IsOver more c → IsOver more d
+    → AtMost c a → AtMost d b → IsComputed t op a b v → IsComputed more op c d u → AtMost u v
 computed_is_monotone t more op a b (Words xs) (Words ys) v u in_more oa ob oc od left right wide narrow =
     narrow.least v (over_more t more v in_more.thresholds (computed_over t op a b v wide))
     (record { words = λ w ra word address pair. pointwise_in t op a b v xs ys w ra oc od left right wide address pair })
 computed_is_monotone t more op a b (Words xs) (Range lo hi) v u in_more oa ob oc od left right wide narrow =
-    spanned_is_monotone t more op a b (Words xs) (Range lo hi) v u in_more oa ob oc od left right (spanned_unless_sets t op a b v (no_sets_below a b (Words xs) (Range lo hi) oa.value ob.value oc.value od.value left right refl) wide) narrow
+    spanned_is_monotone t more op a b (Words xs) (Range lo hi) v u in_more oa ob oc od left right
+    (spanned_unless_sets t op a b v (no_sets_below a b (Words xs) (Range lo hi) oa.value ob.value oc.value od.value left right refl) wide) narrow
 computed_is_monotone t more op a b (Words xs) Ret v u in_more oa ob oc od left right wide narrow =
-    spanned_is_monotone t more op a b (Words xs) Ret v u in_more oa ob oc od left right (spanned_unless_sets t op a b v (no_sets_below a b (Words xs) Ret oa.value ob.value oc.value od.value left right refl) wide) narrow
+    spanned_is_monotone t more op a b (Words xs) Ret v u in_more oa ob oc od left right
+    (spanned_unless_sets t op a b v (no_sets_below a b (Words xs) Ret oa.value ob.value oc.value od.value left right refl) wide) narrow
 computed_is_monotone t more op a b (Range lo hi) d v u in_more oa ob oc od left right wide narrow =
-    spanned_is_monotone t more op a b (Range lo hi) d v u in_more oa ob oc od left right (spanned_unless_sets t op a b v (no_sets_below a b (Range lo hi) d oa.value ob.value oc.value od.value left right refl) wide) narrow
+    spanned_is_monotone t more op a b (Range lo hi) d v u in_more oa ob oc od left right
+    (spanned_unless_sets t op a b v (no_sets_below a b (Range lo hi) d oa.value ob.value oc.value od.value left right refl) wide) narrow
 computed_is_monotone t more op a b Ret d v u in_more oa ob oc od left right wide narrow =
-    spanned_is_monotone t more op a b Ret d v u in_more oa ob oc od left right (spanned_unless_sets t op a b v (no_sets_below a b Ret d oa.value ob.value oc.value od.value left right refl) wide) narrow
+    spanned_is_monotone t more op a b Ret d v u in_more oa ob oc od left right
+    (spanned_unless_sets t op a b v (no_sets_below a b Ret d oa.value ob.value oc.value od.value left right refl) wide) narrow
 
 -- a value that is exactly 0 has the word 0
 zero_has : (v : Value) (ra : ℕ) → IsValue v → is_zero v ≡ true → Has v 0 ra
@@ -380,7 +423,8 @@ zero_has (Words (w ∷ v ∷ rest)) ra value is = absurd (false≢true is)
 zero_has (Range lo hi) ra value is = absurd (false≢true is)
 zero_has Ret ra value is = absurd (false≢true is)
 
-pub step_is_monotone : (t more : List ℕ) (op : Op) (a b c d v u : Value) → AreMore t more → IsOver t a → IsOver t b → IsOver more c → IsOver more d → AtMost c a → AtMost d b → IsStep t op a b v → IsStep more op c d u → AtMost u v
+pub step_is_monotone : (t more : List ℕ) (op : Op) (a b c d v u : Value) → AreMore t more → IsOver t a → IsOver t b → IsOver more c → IsOver more d
+    → AtMost c a → AtMost d b → IsStep t op a b v → IsStep more op c d u → AtMost u v
 step_is_monotone t more op a b c d v u in_more oa ob oc od left right wide narrow =
     elim (step_cases more op c d u narrow) [
       | inl copied ↦
@@ -388,7 +432,8 @@ step_is_monotone t more op a b c d v u in_more oa ob oc od left right wide narro
           record {
             words = λ w ra word address has.
                 let none = zero_has d ra od.value parts.1 in
-                let covers : Has v (result_of op false w 0) ra = step_covers t op a b v w 0 ra wide word (omega arith) address (left.words w ra word address (subst (λ (s : Value). Has s w ra) copied.1 has)) (right.words 0 ra (omega arith) address none) in
+                let covers : Has v (result_of op false w 0) ra = step_covers t op a b v w 0 ra wide word (omega arith) address
+                (left.words w ra word address (subst (λ (s : Value). Has s w ra) copied.1 has)) (right.words 0 ra (omega arith) address none) in
                 subst (λ (r : ℕ). Has v r ra) (left_stays op w parts.0 word) covers;
           }
       | inr (inl copied) ↦
@@ -396,17 +441,20 @@ step_is_monotone t more op a b c d v u in_more oa ob oc od left right wide narro
           record {
             words = λ w ra word address has.
                 let none = zero_has c ra oc.value parts.1 in
-                let covers : Has v (result_of op false 0 w) ra = step_covers t op a b v 0 w ra wide (omega arith) word address (left.words 0 ra (omega arith) address none) (right.words w ra word address (subst (λ (s : Value). Has s w ra) copied.1 has)) in
+                let covers : Has v (result_of op false 0 w) ra = step_covers t op a b v 0 w ra wide (omega arith) word address
+                (left.words 0 ra (omega arith) address none) (right.words w ra word address (subst (λ (s : Value). Has s w ra) copied.1 has)) in
                 subst (λ (r : ℕ). Has v r ra) (right_stays op w parts.0 word) covers;
           }
       | inr (inr computed) ↦
           elim (step_cases t op a b v wide) [
             | inl copied ↦
                 let parts = and_parts (copies_left op) (is_zero b) copied.0 in
-                absurd (both_ways (copies_left op && is_zero d) computed.0 (and_from (copies_left op) (is_zero d) parts.0 (zero_below d b od.value ob.value right parts.1)))
+                absurd (both_ways (copies_left op && is_zero d) computed.0 (and_from (copies_left op) (is_zero d) parts.0
+                (zero_below d b od.value ob.value right parts.1)))
             | inr (inl copied) ↦
                 let parts = and_parts (copies_right op) (is_zero a) copied.0 in
-                absurd (both_ways (copies_right op && is_zero c) computed.1 (and_from (copies_right op) (is_zero c) parts.0 (zero_below c a oc.value oa.value left parts.1)))
+                absurd (both_ways (copies_right op && is_zero c) computed.1 (and_from (copies_right op) (is_zero c) parts.0
+                (zero_below c a oc.value oa.value left parts.1)))
             | inr (inr other) ↦ computed_is_monotone t more op a b c d v u in_more oa ob oc od left right other.2 computed.2
           ]
     ]
@@ -414,19 +462,30 @@ step_is_monotone t more op a b c d v u in_more oa ob oc od left right wide narro
 pub carry_over : (t : List ℕ) → IsOver t (Words (0 ∷ 1 ∷ []))
 carry_over t = record { value = carry_set; ends = tt }
 
-pub twice_is_monotone : (t more : List ℕ) (op : Op) (a b c d v u : Value) → AreMore t more → IsOver t a → IsOver t b → IsOver more c → IsOver more d → AtMost c a → AtMost d b → IsTwice t op a b v → IsTwice more op c d u → AtMost u v
+pub twice_is_monotone : (t more : List ℕ) (op : Op) (a b c d v u : Value) → AreMore t more → IsOver t a → IsOver t b → IsOver more c → IsOver more d
+    → AtMost c a → AtMost d b → IsTwice t op a b v → IsTwice more op c d u → AtMost u v
 twice_is_monotone t more op a b c d v u in_more oa ob oc od left right wide narrow =
-    let between : AtMost narrow.between wide.between = step_is_monotone t more op a b c d wide.between narrow.between in_more oa ob oc od left right wide.first narrow.first in
-    step_is_monotone t more op wide.between (Words (0 ∷ 1 ∷ [])) narrow.between (Words (0 ∷ 1 ∷ [])) v u in_more (step_over t op a b wide.between oa ob wide.first) (carry_over t) (step_over more op c d narrow.between oc od narrow.first) (carry_over more) between (record { words = λ w ra word address has. has }) wide.second narrow.second
+    let between : AtMost narrow.between wide.between = step_is_monotone t more op a b c d wide.between narrow.between in_more oa ob oc od left right
+    wide.first narrow.first in
+    step_is_monotone t more op wide.between (Words (0 ∷ 1 ∷ [])) narrow.between (Words (0 ∷ 1 ∷ [])) v u in_more
+    (step_over t op a b wide.between oa ob wide.first) (carry_over t) (step_over more op c d narrow.between oc od narrow.first) (carry_over more) between
+    (record { words = λ w ra word address has. has }) wide.second narrow.second
 
-applied_by : (o : Option Op) (t more : List ℕ) (op : Op) (a b c d v u : Value) → AreMore t more → IsOver t a → IsOver t b → IsOver more c → IsOver more d → AtMost c a → AtMost d b
+applied_by : (o : Option Op) (t more : List ℕ) (op : Op) (a b c d v u : Value) → AreMore t more → IsOver t a → IsOver t b → IsOver more c → IsOver more d
+    → AtMost c a → AtMost d b
     → MatchOption o (IsStep t op a b v) (λ base. IsTwice t base a b v) → MatchOption o (IsStep more op c d u) (λ base. IsTwice more base c d u) → AtMost u v
-applied_by None t more op a b c d v u in_more oa ob oc od left right wide narrow = step_is_monotone t more op a b c d v u in_more oa ob oc od left right wide narrow
-applied_by (Some base) t more op a b c d v u in_more oa ob oc od left right wide narrow = twice_is_monotone t more base a b c d v u in_more oa ob oc od left right wide narrow
+applied_by None t more op a b c d v u in_more oa ob oc od left right wide narrow = step_is_monotone t more op a b
+    c d v u in_more oa ob oc od left right wide narrow
+applied_by (Some base) t more op a b c d v u in_more oa ob oc od left right wide narrow = twice_is_monotone t more base a b
+    c d v u in_more oa ob oc od left right wide narrow
 
-pub applied_is_monotone : (t more : List ℕ) (op : Op) (a b c d v u : Value) → AreMore t more → IsOver t a → IsOver t b → IsOver more c → IsOver more d → AtMost c a → AtMost d b → IsApplied t op a b v → IsApplied more op c d u → AtMost u v
-applied_is_monotone t more op a b c d v u in_more oa ob oc od left right wide narrow = applied_by (carried_of op) t more op a b c d v u in_more oa ob oc od left right wide narrow
+pub applied_is_monotone : (t more : List ℕ) (op : Op) (a b c d v u : Value) → AreMore t more → IsOver t a → IsOver t b → IsOver more c → IsOver more d
+    → AtMost c a → AtMost d b → IsApplied t op a b v → IsApplied more op c d u → AtMost u v
+applied_is_monotone t more op a b c d v u in_more oa ob oc od left right wide narrow = applied_by (carried_of op) t more op a b
+    c d v u in_more oa ob oc od left right wide narrow
 
 pub carry_is : (t : List ℕ) (v : Value) → IsLeast t (Contains (0 ∷ 1 ∷ [])) v → v ≡ Words (0 ∷ 1 ∷ [])
 carry_is t v least =
-    same_value v (Words (0 ∷ 1 ∷ [])) least.over.value carry_set (least.least (Words (0 ∷ 1 ∷ [])) (carry_over t) (record { words = λ w ra word address has. has })) (record { words = λ w ra word address has. least.each.words w ra word address has })
+    same_value v (Words (0 ∷ 1 ∷ [])) least.over.value carry_set
+    (least.least (Words (0 ∷ 1 ∷ [])) (carry_over t) (record { words = λ w ra word address has. has }))
+    (record { words = λ w ra word address has. least.each.words w ra word address has })

@@ -29,5 +29,7 @@ pub record ApplyIsOne : Type 0 where
 -- gives what is at most what it gave.
 pub record ApplyIsMonotone : Type 0 where
   pub over : (t : List ℕ) (op : Op) (a b : Value) → IsThresholds t → is_over t a ≡ true → is_over t b ≡ true → is_over t (apply t op a b) ≡ true
-  pub covers : (t : List ℕ) (op : Op) (a b : Value) (carry : Bool) (x y ra : ℕ) → IsThresholds t → is_over t a ≡ true → is_over t b ≡ true → x < 2 ^ 32 → y < 2 ^ 32 → ra < 2 ^ 32 → Has a x ra → Has b y ra → Has (apply t op a b) (result_of op carry x y) ra
-  pub falls : (t more : List ℕ) (op : Op) (a b c d : Value) → IsThresholds t → IsThresholds more → AreMore t more → is_over t a ≡ true → is_over t b ≡ true → is_over more c ≡ true → is_over more d ≡ true → is_at_most c a ≡ true → is_at_most d b ≡ true → is_at_most (apply more op c d) (apply t op a b) ≡ true
+  pub covers : (t : List ℕ) (op : Op) (a b : Value) (carry : Bool) (x y ra : ℕ) → IsThresholds t → is_over t a ≡ true → is_over t b ≡ true → x < 2 ^ 32
+      → y < 2 ^ 32 → ra < 2 ^ 32 → Has a x ra → Has b y ra → Has (apply t op a b) (result_of op carry x y) ra
+  pub falls : (t more : List ℕ) (op : Op) (a b c d : Value) → IsThresholds t → IsThresholds more → AreMore t more → is_over t a ≡ true → is_over t b ≡ true
+      → is_over more c ≡ true → is_over more d ≡ true → is_at_most c a ≡ true → is_at_most d b ≡ true → is_at_most (apply more op c d) (apply t op a b) ≡ true

@@ -1,5 +1,6 @@
 -- What an operation on values comes to.
-use Rattle.std.specs.Prelude.{◌==◌, ◌≡◌, ℕ, ◌^◌, ◌<◌, ◌&&◌, Bool, true, false, List, [], ◌∷◌, Option, Some, None, Contains, MatchOption, map, bit_and, bit_or, bit_xor, if◌then◌else◌}
+use Rattle.std.specs.Prelude.{◌≡◌, ℕ, ◌^◌, ◌<◌, ◌&&◌, Bool, true, false, List, [], ◌∷◌, Option, Some, None, Contains, MatchOption, map, bit_and}
+use Rattle.std.specs.Prelude.{bit_or, bit_xor, if◌then◌else◌}
 use Rattle.std.specs.List.{flat_map}
 use Rattle.value_lattice.specs.Ends.{AreEnds, low_end, high_end}
 use Rattle.value_lattice.specs.Least.{cover, span}

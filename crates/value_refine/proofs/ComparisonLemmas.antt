@@ -82,7 +82,9 @@ by_condition P p0 p1 p2 p3 p4 p5 p8 p9 p10 p11 p12 p13 k below small =
     ]
 
 -- the mirrored condition over the flags of the difference the other way round
-pub mirror_is : ComparisonIsEquality → ComparisonIsSignedOrder → ComparisonIsUnsignedOrder → (x y : ℕ) → x < 2 ^ 32 → y < 2 ^ 32 → (condition : ℕ) → condition < 16 → IsMirrored condition → holds_of condition (difference_flags_of x y false) ≡ holds_of (mirror_of condition) (difference_flags_of y x false)
+pub mirror_is : ComparisonIsEquality → ComparisonIsSignedOrder → ComparisonIsUnsignedOrder → (x y : ℕ) → x < 2 ^ 32 → y < 2 ^ 32 → (condition : ℕ)
+    → condition < 16 → IsMirrored condition
+    → holds_of condition (difference_flags_of x y false) ≡ holds_of (mirror_of condition) (difference_flags_of y x false)
 mirror_is equality signed unsigned x y xw yw =
     by_condition (λ k. holds_of k (difference_flags_of x y false) ≡ holds_of (mirror_of k) (difference_flags_of y x false))
     refl same le lt leu lu refl (ap not same) (back _ _ le) (back _ _ lt) (back _ _ leu) (back _ _ lu) where
@@ -111,7 +113,8 @@ pub sign_is_less : (condition : ℕ) → condition ≡ 6 → IsTest condition Le
 sign_is_less condition six = record { is = λ x y xw yw none. rw six (negative_is_less x y xw (none six)) }
 
 -- a condition from 8 on is the negation of the one 8 below
-asked_of : (condition : ℕ) (truth b : Bool) (f : Flags) → condition < 16 → first_eight (condition % 8) f ≡ b → (holds_of condition f ≡ truth) ↔ (b ≡ beq truth (ltb condition 8))
+asked_of : (condition : ℕ) (truth b : Bool) (f : Flags) → condition < 16 → first_eight (condition % 8) f ≡ b
+    → (holds_of condition f ≡ truth) ↔ (b ≡ beq truth (ltb condition 8))
 asked_of condition truth b f below is =
     elim (cases_lt condition 8) [
       | inl low ↦
@@ -135,9 +138,14 @@ asked_of condition truth b f below is =
       disagree false true = (λ h. refl, λ h. refl)
       disagree false false = (λ h. sym h, λ h. sym h)
 
-pub asked : (condition : ℕ) (truth : Bool) (relation : Relation) → condition < 16 → IsTest (condition % 8) relation → IsAsked condition truth (record { relation = relation; holds = beq truth (ltb condition 8) })
-asked condition truth relation below test = record { is = λ x y xw yw none. asked_of condition truth (relates relation x y) (difference_flags_of x y false) below (test.is x y xw yw none) }
+pub asked : (condition : ℕ) (truth : Bool) (relation : Relation) → condition < 16 → IsTest (condition % 8) relation
+    → IsAsked condition truth (record { relation = relation; holds = beq truth (ltb condition 8) })
+asked condition truth relation below test = record {
+  is = λ x y xw yw none. asked_of condition truth (relates relation x y) (difference_flags_of x y false)
+      below (test.is x y xw yw none);
+}
 
 -- against 0 the sign of the difference is the order with sign
-pub sign_is_less_than_zero : ComparisonIsSignedOrder → (x y : ℕ) → x < 2 ^ 32 → y ≡ 0 → holds_of 6 (difference_flags_of x y false) ≡ holds_of 3 (difference_flags_of x y false)
+pub sign_is_less_than_zero : ComparisonIsSignedOrder → (x y : ℕ) → x < 2 ^ 32 → y ≡ 0
+    → holds_of 6 (difference_flags_of x y false) ≡ holds_of 3 (difference_flags_of x y false)
 sign_is_less_than_zero signed x y word none = negative_is_less x y word none ∙ sym (signed x y word (omega arith)).0

@@ -1,6 +1,7 @@
 -- Words that values may have, and what is least of them.
 use Rattle.value_lattice.proofs.MayLemmas.{least_or_none_of_same}
-use Rattle.std.proofs.Common.{◌≡◌, ℕ, ◌+◌, ◌^◌, ◌<◌, ◌≤◌, ◌⊎◌, ◌↔◌, List, [], ◌∷◌, length, get_or, ◌++◌, Option, Some, None, Result, IfOk, refl, sym, subst, inl, inr, ⊎_elim, arith, Contains}
+use Rattle.std.proofs.Common.{◌≡◌, ℕ, ◌+◌, ◌^◌, ◌<◌, ◌≤◌, ◌⊎◌, ◌↔◌, List, [], ◌∷◌, length, get_or, ◌++◌, Option, Some, None, Result, IfOk, refl, sym, subst}
+use Rattle.std.proofs.Common.{inl, inr, ⊎_elim, arith, Contains}
 use Rattle.std.specs.Prelude.{ℤ}
 use Rattle.std.proofs.lemmas.List.Elements.{All-contains, Contains-get_or, Contains-append_left, Contains-push, Contains-push_cases}
 use Rattle.std.proofs.lemmas.Bool.{cases_lt}
@@ -20,11 +21,13 @@ use Rattle.value_refine.specs.declared.interval.Interval.{Interval}
 use Rattle.value_refine.specs.declared.region.Region.{Region}
 
 -- the join of what is least of two kinds is least of both
-pub least_of_either : (t : List ℕ) (first second : ℕ → Type 0) (a b v : Value) → IsLeast t first a → IsLeast t second b → IsJoin t a b v → IsLeast t (λ w. first w ⊎ second w) v
+pub least_of_either : (t : List ℕ) (first second : ℕ → Type 0) (a b v : Value) → IsLeast t first a → IsLeast t second b → IsJoin t a b v
+    → IsLeast t (λ w. first w ⊎ second w) v
 least_of_either t first second a b v one other join = record {
   over = join.over;
   each = record {
-    words = λ w ra word address is. ⊎_elim (λ here. join.left.words w ra word address (one.each.words w ra word address here)) (λ there. join.right.words w ra word address (other.each.words w ra word address there)) is;
+    words = λ w ra word address is. ⊎_elim (λ here. join.left.words w ra word address (one.each.words w ra word address here))
+        (λ there. join.right.words w ra word address (other.each.words w ra word address there)) is;
   };
   least = λ u over each. join.least u over
       (one.least u over (record { words = λ w ra word address here. each.words w ra word address (inl here) }))
@@ -59,9 +62,11 @@ chosen_none kind words = record {
   all = λ k d below. absurd (omega arith);
 }
 
-pub chosen_more : (kind : ℕ → Type 0) (words kept : List ℕ) (i : ℕ) → i < length words → kind (get_or words i 0) → IsChosen kind words kept i → IsChosen kind words (kept ++ get_or words i 0 ∷ []) (i + 1)
+pub chosen_more : (kind : ℕ → Type 0) (words kept : List ℕ) (i : ℕ) → i < length words → kind (get_or words i 0) → IsChosen kind words kept i
+    → IsChosen kind words (kept ++ get_or words i 0 ∷ []) (i + 1)
 chosen_more kind words kept i within is chosen = record {
-  listed = λ w has. ⊎_elim (λ old. chosen.listed w old) (λ same. subst (Contains words) same (Contains-get_or words i 0 within)) (Contains-push_cases kept (get_or words i 0) w has);
+  listed = λ w has. ⊎_elim (λ old. chosen.listed w old) (λ same. subst (Contains words) same (Contains-get_or words i 0 within))
+      (Contains-push_cases kept (get_or words i 0) w has);
   fit = λ w has. ⊎_elim (λ old. chosen.fit w old) (λ same. subst kind same is) (Contains-push_cases kept (get_or words i 0) w has);
   all = λ k d below kind_k.
       elim (cases_lt k i) [
@@ -72,7 +77,8 @@ chosen_more kind words kept i within is chosen = record {
       ];
 }
 
-pub chosen_less : (kind : ℕ → Type 0) (words kept : List ℕ) (i : ℕ) → i < length words → (kind (get_or words i 0) → ⊥) → IsChosen kind words kept i → IsChosen kind words kept (i + 1)
+pub chosen_less : (kind : ℕ → Type 0) (words kept : List ℕ) (i : ℕ) → i < length words → (kind (get_or words i 0) → ⊥) → IsChosen kind words kept i
+    → IsChosen kind words kept (i + 1)
 chosen_less kind words kept i within isnt chosen = record {
   listed = chosen.listed;
   fit = chosen.fit;
@@ -85,15 +91,22 @@ chosen_less kind words kept i within isnt chosen = record {
       ];
 }
 
-pub chosen_all : (kind : ℕ → Type 0) (words kept : List ℕ) (i w : ℕ) → length words ≤ i → IsChosen kind words kept i → Contains kept w ↔ (Contains words w × kind w)
-chosen_all kind words kept i w past chosen =
-    (λ has. (chosen.listed w has, chosen.fit w has), λ both. subst (Contains kept) both.0.2 (chosen.all both.0.0 w (omega (arith, both.0.1)) (subst kind (sym both.0.2) both.1)))
+pub chosen_all : (kind : ℕ → Type 0) (words kept : List ℕ) (i w : ℕ) → length words ≤ i → IsChosen kind words kept i
+    → Contains kept w ↔ (Contains words w × kind w)
+chosen_all kind words kept i w past chosen = (
+  λ has. (chosen.listed w has, chosen.fit w has),
+  λ both. subst (Contains kept) both.0.2
+      (chosen.all both.0.0 w (omega (arith, both.0.1)) (subst kind (sym both.0.2) both.1)),
+)
 
 -- the same for what a call answers
-pub answer_of_same : {E : Type 0} (t : List ℕ) (kind other : ℕ → Type 0) (r : Result (Option Value) E) → ((w : ℕ) → w < 2 ^ 32 → kind w → other w) → ((w : ℕ) → w < 2 ^ 32 → other w → kind w) → IfOk r (IsLeastOrNone t kind) → IfOk r (IsLeastOrNone t other)
-answer_of_same t kind other r there back answer = IfOk-weaker r (IsLeastOrNone t kind) (IsLeastOrNone t other) (λ o. least_or_none_of_same t kind other o there back) answer
+pub answer_of_same : {E : Type 0} (t : List ℕ) (kind other : ℕ → Type 0) (r : Result (Option Value) E) → ((w : ℕ) → w < 2 ^ 32 → kind w → other w)
+    → ((w : ℕ) → w < 2 ^ 32 → other w → kind w) → IfOk r (IsLeastOrNone t kind) → IfOk r (IsLeastOrNone t other)
+answer_of_same t kind other r there back answer = IfOk-weaker r (IsLeastOrNone t kind) (IsLeastOrNone t other)
+    (λ o. least_or_none_of_same t kind other o there back) answer
 
-pub restricted_range : (lo hi : ℤ) (region both : Region) (places : Interval) (w : ℕ) → AreEnds (Range lo hi) places.low places.high → IsInRegion both w ↔ (IsInRegion region w × IsIn places (place_of w)) → IsInRegion both w → IsRestricted (Range lo hi) region w
+pub restricted_range : (lo hi : ℤ) (region both : Region) (places : Interval) (w : ℕ) → AreEnds (Range lo hi) places.low places.high
+    → IsInRegion both w ↔ (IsInRegion region w × IsIn places (place_of w)) → IsInRegion both w → IsRestricted (Range lo hi) region w
 restricted_range lo hi region both places w ends is_both is =
     let parts = is_both.0 is in
     record { has = record { address = 0; fits = omega arith; has = (omega (arith, ends, parts.1), omega (arith, ends, parts.1)) }; within = parts.0 }

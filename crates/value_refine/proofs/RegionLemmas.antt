@@ -14,5 +14,8 @@ either_side P Q k n below above = (λ some same. ⊎_elim (λ p. omega (arith, b
 
 -- of two kinds those that are of a third one too
 pub either_and : (P Q R S T : Type 0) → R ↔ (P × T) → S ↔ (Q × T) → (R ⊎ S) ↔ ((P ⊎ Q) × T)
-either_and P Q R S T first second =
-    (λ some. ⊎_elim (λ r. (inl (first.0 r).0, (first.0 r).1)) (λ s. (inr (second.0 s).0, (second.0 s).1)) some, λ both. ⊎_elim (λ p. inl (first.1 (p, both.1))) (λ q. inr (second.1 (q, both.1))) both.0)
+either_and P Q R S T first second = (
+  λ some. ⊎_elim (λ r. (inl (first.0 r).0, (first.0 r).1)) (λ s. (inr (second.0 s).0, (second.0 s).1)) some,
+  λ both. ⊎_elim
+      (λ p. inl (first.1 (p, both.1))) (λ q. inr (second.1 (q, both.1))) both.0,
+)

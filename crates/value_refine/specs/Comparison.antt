@@ -31,7 +31,8 @@ pub record IsTest (condition : ℕ) (relation : Relation) : Type 0 where
 
 -- the relation holds, or doesn't, as the condition is to be
 pub record IsAsked (condition : ℕ) (truth : Bool) (c : Comparison) : Type 0 where
-  pub is : (x y : ℕ) → x < 2 ^ 32 → y < 2 ^ 32 → (condition % 8 ≡ 6 → y ≡ 0) → (holds_of condition (difference_flags_of x y false) ≡ truth) ↔ (relates c.relation x y ≡ c.holds)
+  pub is : (x y : ℕ) → x < 2 ^ 32 → y < 2 ^ 32 → (condition % 8 ≡ 6 → y ≡ 0)
+      → (holds_of condition (difference_flags_of x y false) ≡ truth) ↔ (relates c.relation x y ≡ c.holds)
 
 -- some word of a value compares so with a word
 pub record IsReached (c : Comparison) (right : Value) (x : ℕ) : Type 0 where

@@ -19,6 +19,3 @@ pub use laws::{
 pub use mirroring::mirror;
 pub use refining::refine;
 pub use restricting::within;
-
-#[cfg(test)]
-mod tests;

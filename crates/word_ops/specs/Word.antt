@@ -1,5 +1,5 @@
 -- Words: numbers below 2 ^ 32, read without sign or, by their keys, with sign.
-use Rattle.std.specs.Prelude.{◌==◌, ℕ, ◌+◌, ◌-◌, ◌*◌, ◌/◌, ◌%◌, ◌^◌, Bool, true, false, not, ◌&&◌, nat_lt, nat_le, bit_and, bit_or, bit_xor, if◌then◌else◌}
+use Rattle.std.specs.Prelude.{ℕ, ◌+◌, ◌-◌, ◌*◌, ◌/◌, ◌%◌, ◌^◌, Bool, not, ◌&&◌, nat_lt, nat_le, bit_xor, if◌then◌else◌}
 
 -- The key of a word: its value read with sign, plus 2 ^ 31. So words with sign are in the order of their keys.
 abbrev pub key : ℕ → ℕ

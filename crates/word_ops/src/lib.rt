@@ -9,8 +9,6 @@ mod conditions;
 mod laws;
 mod logic;
 mod shifts;
-#[cfg(test)]
-mod tests;
 
 pub use arithmetic::{
     Flags, difference, difference_flags, logic_flags, overflows_down, overflows_up, product, sum,

@@ -14,7 +14,8 @@ pub returns-in-Range : goal.returns-in-Range
 returns-in-Range c =
     let lo : FitsSigned w32 c.in-Range.lo = search rules in
     let hi : FitsSigned w32 c.in-Range.hi = search rules in
-    rw c.in-Range.is (iff_trans (rw (to_z-of_z w32 c.in-Range.lo lo, to_z-of_z w32 c.in-Range.hi hi) at c.encloses.ensures) (between_in_range c.args.low c.args.high c.in-Range.lo c.in-Range.hi (omega arith) c.ranges.high.fits))
+    rw c.in-Range.is (iff_trans (rw (to_z-of_z w32 c.in-Range.lo lo, to_z-of_z w32 c.in-Range.hi hi) at c.encloses.ensures)
+    (between_in_range c.args.low c.args.high c.in-Range.lo c.in-Range.hi (omega arith) c.ranges.high.fits))
 
 pub returns-in-Ret : goal.returns-in-Ret
 returns-in-Ret c = rw c.in-Ret.is (iff_never (no_between_in_ret c.args.low c.args.high (omega arith) c.ranges.high.fits))

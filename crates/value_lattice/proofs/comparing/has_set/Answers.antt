@@ -13,7 +13,14 @@ pub returns-in-Range : goal.returns-in-Range
 returns-in-Range c =
     let lo : FitsSigned w32 c.in-Range.lo = search rules in
     let hi : FitsSigned w32 c.in-Range.hi = search rules in
-    rw c.in-Range.is (iff_trans (rw (c.rank.ensures, c.rank-in-Range.ensures, c.members-in-Range.ensures.words, to_z-of_z w32 c.in-Range.lo lo, to_z-of_z w32 c.in-Range.hi hi) at c.are_between.ensures) (set_in_range c.args.set.now c.in-Range.lo c.in-Range.hi c.requires))
+    rw c.in-Range.is (iff_trans (rw (
+      c.rank.ensures,
+      c.rank-in-Range.ensures,
+      c.members-in-Range.ensures.words,
+      to_z-of_z w32 c.in-Range.lo lo,
+      to_z-of_z w32
+          c.in-Range.hi hi,
+    ) at c.are_between.ensures) (set_in_range c.args.set.now c.in-Range.lo c.in-Range.hi c.requires))
 
 pub returns-in-Ret : goal.returns-in-Ret
 returns-in-Ret c = rw c.in-Ret.is (iff_never (no_set_in_ret c.args.set.now c.requires))

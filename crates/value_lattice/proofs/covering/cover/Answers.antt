@@ -15,7 +15,8 @@ least_of_list : (c : goal.After-cover_rising) → IsLeast c.args.t.now (Contains
 least_of_list c =
     let keeps = rw c.in_ok-words.ensures.items at c.put_in_order.ensures.keeps in
     let adds_none = rw c.in_ok-words.ensures.items at c.put_in_order.ensures.adds_none in
-    least_of_same c.args.t.now (Contains c.put_in_order.new.numbers.items) (Contains c.args.list.now) c.cover_rising.result (λ w word has. adds_none w has) (λ w word has. keeps w has) c.cover_rising.ensures
+    least_of_same c.args.t.now (Contains c.put_in_order.new.numbers.items) (Contains c.args.list.now) c.cover_rising.result (λ w word has. adds_none w has)
+    (λ w word has. keeps w has) c.cover_rising.ensures
 
 pub returns-clause-least : goal.returns-clause-least
 returns-clause-least c = least_of_list c
@@ -23,7 +24,8 @@ returns-clause-least c = least_of_list c
 pub returns-clause-value : goal.returns-clause-value
 returns-clause-value c =
     let first : get_or c.args.list.now 0 0 < 2 ^ 32 = search rules in
-    is_cover c.args.t.now c.args.list.now (get_or c.args.list.now 0 0) c.cover_rising.result c.are_thresholds.ensures first (Contains-get_or c.args.list.now 0 0 c.requires) (least_of_list c)
+    is_cover c.args.t.now c.args.list.now (get_or c.args.list.now 0 0) c.cover_rising.result c.are_thresholds.ensures first
+    (Contains-get_or c.args.list.now 0 0 c.requires) (least_of_list c)
 
 pub returns-then-list-eq1-clause-value : goal.returns-then-list-eq1-clause-value
 returns-then-list-eq1-clause-value c =

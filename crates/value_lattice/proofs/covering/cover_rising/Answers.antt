@@ -13,4 +13,5 @@ pub returns : goal.returns
 returns c =
     let fits : All (λ w. w < 2 ^ 32) c.args.words.items = search rules in
     let ends = rw c.as_slice.ensures.value at c.ends_of-low.ensures in
-    hull_is_least c.args.t.now c.args.words.items c.ends_of-low.result.0 c.ends_of-low.result.1 c.range_between.result c.requires.rising fits (omega arith) ends.between (search rules) (search rules) ends.least ends.greatest c.range_between.ensures
+    hull_is_least c.args.t.now c.args.words.items c.ends_of-low.result.0 c.ends_of-low.result.1 c.range_between.result c.requires.rising fits
+    (omega arith) ends.between (search rules) (search rules) ends.least ends.greatest c.range_between.ensures

@@ -10,7 +10,8 @@ loop-word-init c =
 pub loop-word-preserved : goal.loop-word-preserved
 loop-word-preserved c =
     let fits : get_or c.args.words.now c.loop-word.word-index 0 < 2 ^ 32 = search rules in
-    rw (c.min-low.ensures, c.max-high.ensures, c.place-here.ensures) (ends_more c.args.words.now c.loop-word.word-index c.loop-word.low c.loop-word.high (omega arith) fits c.loop-word.invariant)
+    rw (c.min-low.ensures, c.max-high.ensures, c.place-here.ensures)
+    (ends_more c.args.words.now c.loop-word.word-index c.loop-word.low c.loop-word.high (omega arith) fits c.loop-word.invariant)
 
 pub returns : goal.returns
 returns c = ends_all c.args.words.now c.loop-word.word-index c.loop-word.low c.loop-word.high c.loop-word-test.false c.loop-word.invariant

@@ -11,4 +11,5 @@ cover_rising-requires-clause-some c =
 
 pub returns : goal.returns
 returns c =
-    join_of_sets c.args.t.now c.args.a.now c.args.b.now c.in_ok-merged.merged.items c.cover_rising.result (rw (c.members.ensures.words, c.members-2.ensures.words) at c.in_ok-merged.ensures) c.cover_rising.ensures
+    join_of_sets c.args.t.now c.args.a.now c.args.b.now c.in_ok-merged.merged.items c.cover_rising.result
+    (rw (c.members.ensures.words, c.members-2.ensures.words) at c.in_ok-merged.ensures) c.cover_rising.ensures

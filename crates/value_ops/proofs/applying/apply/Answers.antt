@@ -9,7 +9,8 @@ returns-in-Some-clause-applied c =
     let t = c.args.t.now in
     let a = c.args.a.now in
     let b = c.args.b.now in
-    IfOk-weaker c.twice.result (IsTwice t c.in-Some.base a b) (IsApplied t c.args.op a b) (λ v twice. applied_by_carry (Some c.in-Some.base) t c.args.op a b v c.in-Some.ensures twice) c.twice.ensures.twice
+    IfOk-weaker c.twice.result (IsTwice t c.in-Some.base a b) (IsApplied t c.args.op a b)
+    (λ v twice. applied_by_carry (Some c.in-Some.base) t c.args.op a b v c.in-Some.ensures twice) c.twice.ensures.twice
 
 pub returns-in-Some-clause-value : goal.returns-in-Some-clause-value
 returns-in-Some-clause-value c =
@@ -17,14 +18,16 @@ returns-in-Some-clause-value c =
     let a = c.args.a.now in
     let b = c.args.b.now in
     IfOk-weaker c.twice.result (IsTwice t c.in-Some.base a b) (λ v. v ≡ apply t c.args.op a b)
-    (λ v twice. applied_is_one t c.args.op a b v c.are_thresholds.ensures c.requires.left c.requires.right (applied_by_carry (Some c.in-Some.base) t c.args.op a b v c.in-Some.ensures twice)) c.twice.ensures.twice
+    (λ v twice. applied_is_one t c.args.op a b v c.are_thresholds.ensures c.requires.left c.requires.right
+    (applied_by_carry (Some c.in-Some.base) t c.args.op a b v c.in-Some.ensures twice)) c.twice.ensures.twice
 
 pub returns-in-None-clause-applied : goal.returns-in-None-clause-applied
 returns-in-None-clause-applied c =
     let t = c.args.t.now in
     let a = c.args.a.now in
     let b = c.args.b.now in
-    IfOk-weaker c.step.result (IsStep t c.args.op a b) (IsApplied t c.args.op a b) (λ v step. applied_by_carry None t c.args.op a b v c.in-None.ensures step) c.step.ensures.step
+    IfOk-weaker c.step.result (IsStep t c.args.op a b) (IsApplied t c.args.op a b) (λ v step. applied_by_carry None t c.args.op a b v c.in-None.ensures step)
+    c.step.ensures.step
 
 pub returns-in-None-clause-value : goal.returns-in-None-clause-value
 returns-in-None-clause-value c =
@@ -32,4 +35,5 @@ returns-in-None-clause-value c =
     let a = c.args.a.now in
     let b = c.args.b.now in
     IfOk-weaker c.step.result (IsStep t c.args.op a b) (λ v. v ≡ apply t c.args.op a b)
-    (λ v step. applied_is_one t c.args.op a b v c.are_thresholds.ensures c.requires.left c.requires.right (applied_by_carry None t c.args.op a b v c.in-None.ensures step)) c.step.ensures.step
+    (λ v step. applied_is_one t c.args.op a b v c.are_thresholds.ensures c.requires.left c.requires.right
+    (applied_by_carry None t c.args.op a b v c.in-None.ensures step)) c.step.ensures.step

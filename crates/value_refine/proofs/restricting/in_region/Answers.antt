@@ -11,6 +11,8 @@ loop-word-preserved c =
     let kept = c.loop-word.kept.items in
     let i = c.loop-word.word-index in
     elim c.if-has.branch [
-      | then-has+in_ok-push w ↦ rw (w.kept-is, w.in_ok-push.ensures.items) (chosen_more (IsInRegion c.args.region.now) words kept i c.loop-word-test.true (w.if-has.ensures.0 refl) c.loop-word.invariant)
-      | else-has w ↦ rw w.kept-is (chosen_less (IsInRegion c.args.region.now) words kept i c.loop-word-test.true (λ is. false≢true (w.if-has.ensures.1 is)) c.loop-word.invariant)
+      | then-has+in_ok-push w ↦ rw (w.kept-is, w.in_ok-push.ensures.items)
+          (chosen_more (IsInRegion c.args.region.now) words kept i c.loop-word-test.true (w.if-has.ensures.0 refl) c.loop-word.invariant)
+      | else-has w ↦ rw w.kept-is
+          (chosen_less (IsInRegion c.args.region.now) words kept i c.loop-word-test.true (λ is. false≢true (w.if-has.ensures.1 is)) c.loop-word.invariant)
     ]

@@ -18,7 +18,8 @@ returns-in-Range c =
     let ends = rw c.in-Range.is at c.place_ends.ensures.ends in
     rw c.in-Range.is
     (answer_of_same c.args.t.now (IsRestricted c.args.a.now c.of_places.result) (IsShared c.args.a.now _) c.restrict.result
-    (λ w word is. let inside = (c.of_places.ensures w word).0 is.within in record { left = is.has; right = record { address = 0; fits = omega arith; has = (omega (arith, ends, inside), omega (arith, ends, inside)) } })
+    (λ w word is. let inside = (c.of_places.ensures w word).0 is.within in record
+    { left = is.has; right = record { address = 0; fits = omega arith; has = (omega (arith, ends, inside), omega (arith, ends, inside)) } })
     (λ w word is. record { has = is.left; within = (c.of_places.ensures w word).1 (omega (arith, ends, is.right.has), omega (arith, ends, is.right.has)) })
     c.restrict.ensures)
 

@@ -27,4 +27,5 @@ returns-in-Range c =
 pub returns-in-Ret : goal.returns-in-Ret
 returns-in-Ret c =
     rw c.in-Ret.is
-    (answer_of_same c.args.t.now (IsInRegion c.args.region) (IsRestricted _ c.args.region) c.span_region-in-Ret.result (λ w word is. record { has = may_be_any w word; within = is }) (λ w word is. is.within) c.span_region-in-Ret.ensures)
+    (answer_of_same c.args.t.now (IsInRegion c.args.region) (IsRestricted _ c.args.region) c.span_region-in-Ret.result
+    (λ w word is. record { has = may_be_any w word; within = is }) (λ w word is. is.within) c.span_region-in-Ret.ensures)

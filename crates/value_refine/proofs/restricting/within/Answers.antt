@@ -15,5 +15,6 @@ returns-clause-value c =
     let a = c.args.a.now in
     let low = rank_of c.args.lo in
     let high = rank_of c.args.hi in
-    IfOk-weaker c.within_places.result (IsLeastOrNone t (IsWithin a low high)) (λ (r : Option Value). r ≡ within t a low high) (λ r least. within_one t a low high r c.are_thresholds.ensures least)
+    IfOk-weaker c.within_places.result (IsLeastOrNone t (IsWithin a low high)) (λ (r : Option Value). r ≡ within t a low high)
+    (λ r least. within_one t a low high r c.are_thresholds.ensures least)
     (rw (c.rank.ensures, c.rank-2.ensures, to_z-of_z w32 c.args.lo c.ranges.lo, to_z-of_z w32 c.args.hi c.ranges.hi) at c.within_places.ensures.within)

@@ -2,7 +2,7 @@ use Rattle.std.proofs.Common.{◌↔◌, IsTrue}
 use Rattle.std.proofs.lemmas.Int.{to_z-of_z}
 use Rattle.std.specs.Int.{w32}
 use Rattle.value_lattice.specs.Order.{rank_of}
-use Rattle.value_lattice.specs.Value.{AtMost, HasEach, IsBetween, IsValue}
+use Rattle.value_lattice.specs.Value.{HasEach, IsBetween, IsValue}
 use Rattle.value_lattice.specs.declared.value.Value.TheVariants.{Words, Range, Ret}
 use Rattle.value_lattice.proofs.CompareLemmas.{iff_trans, range_in}
 use Rattle.value_lattice.proofs.TestLemmas.{is_order}

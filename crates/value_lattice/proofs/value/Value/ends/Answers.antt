@@ -1,9 +1,8 @@
-use Rattle.std.proofs.Common.{◌≡◌, ◌^◌, ◌<◌, refl, rules}
+use Rattle.std.proofs.Common.{◌^◌, ◌<◌, refl, rules}
 use Rattle.std.proofs.lemmas.Int.{to_z-of_z}
 use Rattle.std.specs.Int.{w32}
 use Rattle.std.specs.Prelude.{FitsSigned}
 use Rattle.value_lattice.specs.Ends.{AreEndsOf, low_end, high_end}
-use Rattle.value_lattice.specs.declared.value.Value.TheVariants.{Words, Range, Ret}
 use Rattle.value_lattice.proofs.LeastLemmas.{set_ends}
 use Rattle.value_lattice.proofs.value.Value.ends.Goals as goal
 

@@ -7,4 +7,5 @@ use Rattle.value_lattice.proofs.value.Value.may_have.Goals as goal
 
 pub returns-clause-value : goal.returns-clause-value
 returns-clause-value c =
-    one_answer c.has.result (may_have c.args.self.now c.args.w) (iff_trans c.has.ensures (may_have_itself c.args.self.now c.args.w c.ranges.w.fits)) (may_have_decides c.args.self.now c.args.w c.ranges.w.fits)
+    one_answer c.has.result (may_have c.args.self.now c.args.w) (iff_trans c.has.ensures (may_have_itself c.args.self.now c.args.w c.ranges.w.fits))
+    (may_have_decides c.args.self.now c.args.w c.ranges.w.fits)

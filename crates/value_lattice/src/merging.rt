@@ -1,28 +1,9 @@
-ghost use Rattle.std.specs.Prelude.{◌≡◌, ℕ, ◌+◌, ◌^◌, ◌<◌, ◌≤◌, ◌⊎◌, ◌↔◌, IfOk, IsTrue, All, Contains, length, slice_index, vec_len};
+ghost use Rattle.std.specs.Prelude.{◌≡◌, ◌<◌, ◌≤◌, ◌⊎◌, IfOk, length, slice_index};
 ghost use Rattle.std.specs.List.Sorted.{IsStrictlyIncreasing};
 ghost use Rattle.value_lattice.specs.Merge.{IsStep, IsMerge};
 
 use bt_base::Want;
 use std::alloc::Global;
-
-/// Puts numbers in order, each once.
-pub(crate) fn put_in_order(numbers: &mut Vec<u32>)
-    ensures rising { IsStrictlyIncreasing numbers.new.items }
-    ensures keeps { (k : ℕ) → Contains numbers.old.items k → Contains numbers.new.items k }
-    ensures fits { All (λ k. k < 2 ^ 32) numbers.new.items }
-    ensures adds_none { (k : ℕ) → Contains numbers.new.items k → Contains numbers.old.items k }
-{
-    numbers.sort_unstable();
-    numbers.dedup();
-}
-
-/// Whether a rising list has a number.
-pub(crate) fn has(numbers: &[u32], number: u32) -> bool
-    requires { IsStrictlyIncreasing numbers.now }
-    ensures { IsTrue result ↔ Contains numbers.now number }
-{
-    numbers.binary_search(&number).is_ok()
-}
 
 /// The least of the numbers that are left of two rising lists, of which `i` and `j` are taken.
 fn next_of(xs: &[u32], i: usize, ys: &[u32], j: usize) -> u32

@@ -1,6 +1,7 @@
-use crate::{Thresholds, Value, cover, span};
+//! Sets, ranges, the return address, and their joins.
 use std::alloc::Global;
 use std::test::Fail;
+use value_lattice::{Thresholds, Value, cover, span};
 
 /// What a test compares of a value.
 #[derive(Clone, Copy, Debug, PartialEq)]

@@ -1,5 +1,8 @@
 //! The operations against those of the language's own signed numbers.
-use crate::*;
+use word_ops::{
+    complement, difference, difference_flags, holds, logic_flags, product, shift_left, shift_right,
+    shift_right_signed, sum, sum_flags,
+};
 
 /// Words at the edges of both readings.
 const EDGES: [u32; 8] = [
@@ -28,6 +31,11 @@ fn subtracts(x: u32, y: u32) -> bool {
         && flags.v == x.cast_signed().checked_sub(y.cast_signed()).is_none()
 }
 
+/// Whether the product and the complement are.
+fn multiplies(x: u32, y: u32) -> bool {
+    product(x, y) == x.wrapping_mul(y) && complement(x) == !x
+}
+
 /// Whether the conditions after a comparison are the orders with sign and without.
 fn compares(x: u32, y: u32) -> bool {
     let flags = difference_flags(x, y, false);
@@ -50,6 +58,7 @@ fn agrees_with_signed_numbers(rt: HostRuntime) {
         for y in EDGES {
             assert!(rt; adds(x, y), "{x:x} + {y:x}");
             assert!(rt; subtracts(x, y), "{x:x} - {y:x}");
+            assert!(rt; multiplies(x, y), "{x:x} * {y:x}");
             assert!(rt; compares(x, y), "{x:x} and {y:x}");
         }
     }

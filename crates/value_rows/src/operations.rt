@@ -1,11 +1,11 @@
 //! Each operation against its definition on small values.
-use crate::{Op, apply};
 use std::alloc::Global;
 use std::test::Fail;
 use value_lattice::{Thresholds, Value, cover, number_at_place, span};
+use value_ops::{Op, apply};
 
 /// An operation, the ends of its sources, and the ends of its result.
-const CASES: [(Op, [i32; 6]); 29] = [
+const CASES: [(Op, [i32; 6]); 37] = [
     (
         Op::Add,
         [2147483647, 2147483647, 1, 1, -2147483648, -2147483648],
@@ -44,6 +44,14 @@ const CASES: [(Op, [i32; 6]); 29] = [
         Op::Sub,
         [-2147483648, -2147483640, 0, 1, -2147483648, 2147483647],
     ),
+    (Op::Mul, [3, 3, -5, -5, -15, -15]),
+    (Op::Mul, [65536, 65536, 65536, 65536, 0, 0]),
+    (Op::Mul, [0, 255, 0, 0, 0, 0]),
+    (Op::Mul, [-128, 255, 1, 1, -128, 255]),
+    (Op::Mul, [-128, 255, -1, -1, -32768, 255]),
+    (Op::Mul, [-128, 255, -128, 255, -32768, 65535]),
+    (Op::Mul, [0, 2147483647, 2, 2, -2147483648, 2147483647]),
+    (Op::Mul, [-2147483648, 0, -1, -1, -2147483648, 2147483647]),
 ];
 
 /// The ends of the result of an operation.
@@ -79,7 +87,7 @@ fn the_return_address(rt: HostRuntime) -> Result<(), Fail> {
     Ok(())
 }
 
-const OPS: [Op; 13] = [
+const OPS: [Op; 14] = [
     Op::Add,
     Op::Sub,
     Op::And,
@@ -93,6 +101,7 @@ const OPS: [Op; 13] = [
     Op::Sra,
     Op::Addx,
     Op::Subx,
+    Op::Mul,
 ];
 
 /// Small sets: runs and others, of either sign, and counts of shifts.
@@ -122,6 +131,7 @@ fn plain(op: Op, x: u32, y: u32, carry: u32) -> u32 {
         Op::Sra => (x.cast_signed() >> count).cast_unsigned(),
         Op::Addx => x.wrapping_add(y).wrapping_add(carry),
         Op::Subx => x.wrapping_sub(y).wrapping_sub(carry),
+        Op::Mul => x.wrapping_mul(y),
     }
 }
 

@@ -1,0 +1,14 @@
+//! The worked rows of words and values, as tables of their calls: word operations, sets and ranges and their joins,
+//! operations, and refinement; and an instance of each law of values.
+#![tactic(auto)]
+
+#[cfg(test)]
+mod lattice;
+#[cfg(test)]
+mod laws;
+#[cfg(test)]
+mod operations;
+#[cfg(test)]
+mod refinement;
+#[cfg(test)]
+mod words;
