@@ -86,6 +86,9 @@ joined_over t (v ∷ vs) (u ∷ us) is left right =
     let b = and_parts (is_over t u) (list_all (is_over t) us) right in
     and_from (is_over t (join t v u)) (list_all (is_over t) (joined_cells t vs us)) (join_over t v u is a.0 b.0) (joined_over t vs us is a.1 b.1)
 
+pub joined_all : (t : List ℕ) (vs us : List Value) → IsThresholds t → All (IsOver t) vs → All (IsOver t) us → All (IsOver t) (joined_cells t vs us)
+joined_all t vs us is left right = (over_all t (joined_cells t vs us)).0 (joined_over t vs us is ((over_all t vs).1 left) ((over_all t us).1 right))
+
 pub cells_first : (t : List ℕ) (vs us : List Value) → IsThresholds t → length vs ≡ length us → list_all (is_over t) vs ≡ true → list_all (is_over t) us ≡ true → are_at_most vs (joined_cells t vs us) ≡ true
 cells_first t [] us is e left right = refl
 cells_first t (v ∷ vs) [] is e left right = absurd (omega arith)

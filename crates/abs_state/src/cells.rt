@@ -2,9 +2,9 @@ ghost use Rattle.std.specs.Prelude.{◌≡◌, ◌<◌, IfOk, All, length, slice
 ghost use Rattle.call_effects.specs.Mask.{has_cell};
 ghost use Rattle.value_lattice.specs.Height.{are_at_most};
 ghost use Rattle.value_lattice.specs.Least.{top};
-ghost use Rattle.value_lattice.specs.Value.{IsValue, IsOver};
+ghost use Rattle.value_lattice.specs.Value.{IsValue, IsOver, is_ret};
 ghost use Rattle.abs_state.specs.Flags.{names, is_right_cell, right_eq, flags_eq, joined_flags, flags_at_most};
-ghost use Rattle.abs_state.specs.State.{entry_cell, joined_cells, forgotten};
+ghost use Rattle.abs_state.specs.State.{entry_cell, joined_cells, forgotten, may_name, may_name_right, may_speak};
 
 use crate::{Flags, Right};
 use bt_base::Want;
@@ -44,6 +44,48 @@ pub(crate) fn names(flags: Flags, c: u8) -> bool
         Flags::Unknown => false,
         Flags::Cmp { left, right } => left == c || is_right_cell(right, c),
         Flags::Res { cell } => cell == c,
+    }
+}
+
+/// Whether flags may speak of a cell: it is one, and isn't the return address.
+fn may_name(cells: &[Value], c: u8) -> bool
+    requires { length cells.now ≡ 48 }
+    ensures { result ≡ may_name cells.now c }
+{
+    c < CELLS && !is_ret(&cells[c as usize])
+}
+
+/// Whether a value is the return address.
+fn is_ret(v: &Value) -> bool
+    ensures { result ≡ is_ret v.now }
+{
+    match v {
+        Value::Ret => true,
+        Value::Words(_) => false,
+        Value::Range { .. } => false,
+    }
+}
+
+/// Whether flags may speak of a right side.
+fn may_name_right(cells: &[Value], right: Right) -> bool
+    requires { length cells.now ≡ 48 }
+    ensures { result ≡ may_name_right cells.now right }
+{
+    match right {
+        Right::Cell(r) => may_name(cells, r),
+        Right::Word(_) => true,
+    }
+}
+
+/// Whether flags may speak of the cells that they speak of.
+pub(crate) fn may_speak(cells: &[Value], f: Flags) -> bool
+    requires { length cells.now ≡ 48 }
+    ensures { result ≡ may_speak cells.now f }
+{
+    match f {
+        Flags::Unknown => true,
+        Flags::Cmp { left, right } => may_name(cells, left) && may_name_right(cells, right),
+        Flags::Res { cell } => may_name(cells, cell),
     }
 }
 

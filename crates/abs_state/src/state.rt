@@ -1,6 +1,7 @@
 use crate::Flags;
 use crate::cells::{
-    CELLS, cells_at_most, entry_cell, flags_at_most, forget_cells, join_cells, join_flags, names,
+    CELLS, cells_at_most, entry_cell, flags_at_most, forget_cells, join_cells, join_flags,
+    may_speak, names,
 };
 use bt_base::Want;
 use call_effects::Mask;
@@ -29,7 +30,8 @@ impl Model for AbsState {
 }
 
 impl AbsState {
-    ghost use Rattle.std.specs.Prelude.{◌≡◌, ◌<◌, true, IfOk, All};
+    ghost use Rattle.std.specs.Prelude.{◌≡◌, ℕ, ◌<◌, true, List, IfOk, All};
+    ghost use Rattle.value_lattice.specs.Thresholds.{IsThresholds};
     ghost use Rattle.value_lattice.specs.Value.{IsValue, IsOver};
     ghost use Rattle.abs_state.specs.State.{IsState, cell_at, entry_state, with_cell, with_flags, may_speak, joined, is_at_most, without};
 
@@ -37,6 +39,7 @@ impl AbsState {
     pub fn entry(alloc: Global) -> Result<AbsState, Want>
         ensures value { IfOk result (λ s. s ≡ entry_state) }
         ensures state { IfOk result (λ s. IsState s) }
+        ensures over { IfOk result (λ s. (t : List ℕ) → IsThresholds t → All (IsOver t) s.cells) }
     {
         let mut cells = Vec::with_capacity(alloc, CELLS as usize)?;
         for c in 0..CELLS {
@@ -81,6 +84,13 @@ impl AbsState {
         self.flags
     }
 
+    /// Whether flags may speak of the cells that they speak of: none of these is the return address.
+    pub fn may_speak(&self, f: Flags) -> bool
+        ensures { result ≡ may_speak self.now.cells f }
+    {
+        may_speak(self.cells.as_slice(), f)
+    }
+
     /// Says what the condition codes are those of. No cell that `f` speaks of is the return address.
     pub fn set_flags(&mut self, f: Flags)
         requires { may_speak self.old.cells f ≡ true }
@@ -109,7 +119,8 @@ impl AbsState {
     pub fn join(&self, alloc: Global, other: &AbsState, t: &Thresholds) -> Result<AbsState, Want>
         requires left { All (IsOver t.now) self.now.cells }
         requires right { All (IsOver t.now) other.now.cells }
-        ensures { IfOk result (λ s. s ≡ joined t.now self.now other.now) }
+        ensures value { IfOk result (λ s. s ≡ joined t.now self.now other.now) }
+        ensures over { IfOk result (λ s. All (IsOver t.now) s.cells) }
     {
         t.are_thresholds();
         let cells = join_cells(alloc, self.cells.as_slice(), other.cells.as_slice(), t)?;
@@ -129,7 +140,8 @@ impl AbsState {
 
     /// Makes the cells of a set any word, and the flags unknown.
     pub fn forget(&mut self, written: Mask)
-        ensures { self.new ≡ without self.old written }
+        ensures value { self.new ≡ without self.old written }
+        ensures over { (t : List ℕ) → IsThresholds t → All (IsOver t) self.old.cells → All (IsOver t) self.new.cells }
     {
         forget_cells(&mut self.cells, written);
         self.flags = Flags::Unknown;

@@ -1,8 +1,10 @@
 use Rattle.std.proofs.Common.{◌≡◌, ℕ, ◌<◌, ◌≤◌, map, arith, ap, sym, ◌∙◌, subst}
-use Rattle.std.specs.List.{range_with_len}
+use Rattle.std.specs.List.{All, range_with_len}
 use Rattle.std.proofs.lemmas.List.FromFn.{map-range_with_len_more}
 use Rattle.abs_state.proofs.StateLemmas.{entry_is_state, entry_from_loop}
-use Rattle.abs_state.specs.State.{IsState, entry_cell, entry_state}
+use Rattle.abs_state.proofs.WriteLemmas.{entry_all}
+use Rattle.abs_state.specs.State.{State, IsState, entry_cell, entry_state}
+use Rattle.value_lattice.specs.Value.{IsOver}
 use Rattle.abs_state.proofs.state.AbsState.entry.Goals as goal
 
 pub loop-c-preserved : goal.loop-c-preserved
@@ -16,3 +18,6 @@ returns-clause-value c = entry_from_loop _ _ c.loop-c.invariant (omega arith)
 
 pub returns-clause-state : goal.returns-clause-state
 returns-clause-state c = subst IsState (sym (entry_from_loop _ _ c.loop-c.invariant (omega arith))) entry_is_state
+
+pub returns-clause-over : goal.returns-clause-over
+returns-clause-over c = λ t is. subst (λ (s : State). All (IsOver t) s.cells) (sym (entry_from_loop _ _ c.loop-c.invariant (omega arith))) (entry_all t is)
