@@ -11,9 +11,11 @@ use Rattle.fact_pool.specs.Held.{IsHeld}
 
 module _ {K V A : Type 0} (cmp : K → K → Ordering) (m n : Rules K V) (same : m ≡ n) (most : ℕ) where
   -- where a core that is held refuses for its limit, the due graph has more counted keys than the named limit
-  pub refused_is_too_big : (s : CoreState K V) (answer : AnswerState K V) (r : Result A (AnswerState K V × GrowRefusal)) → IsHeld cmp n most s → IsAnswerOf cmp n answer → IfErr r (λ refused. IsPassing cmp m s.facts answer.pieces s.limit refused.1) → IfErr r (λ refused. IsTooBig cmp n most refused.1)
+  pub refused_is_too_big : (s : CoreState K V) (answer : AnswerState K V) (r : Result A (AnswerState K V × GrowRefusal)) → IsHeld cmp n most s
+      → IsAnswerOf cmp n answer → IfErr r (λ refused. IsPassing cmp m s.facts answer.pieces s.limit refused.1)
+      → IfErr r (λ refused. IsTooBig cmp n most refused.1)
   refused_is_too_big s answer (Ok x) held of passing = tt
   refused_is_too_big s answer (Err refused) held of passing =
       subst (λ limit. IsTooBig cmp n limit refused.1) held.limit
-          (too_big cmp n held.lawful s answer refused.1 held.good.part of
-              (subst (λ rules. IsPassing cmp rules s.facts answer.pieces s.limit refused.1) same passing))
+      (too_big cmp n held.lawful s answer refused.1 held.good.part of
+      (subst (λ rules. IsPassing cmp rules s.facts answer.pieces s.limit refused.1) same passing))

@@ -54,12 +54,7 @@ impl<S: System, N: Name<S::Key, S::Val>> Held<S, N> {
 
     /// Takes the least pending key out to be looked at, with copies of the facts that it reads; None exactly where
     /// nothing is pending. Want, and None, leave the core as it was.
-    pub fn take(
-        &mut self,
-        alloc: Global,
-        system: &S,
-        worker: u32,
-    ) -> Result<Option<Claim<S>>, Want>
+    pub fn take(&mut self, alloc: Global, system: &S, worker: u32) -> Result<Option<Claim<S>>, Want>
         requires named { S.rules system.now ≡ N.rules }
         ensures taken { IfOk result (λ taken. IfSome taken (λ claim. Takes S.Key.cmp N.rules self.old claim self.new)) }
         ensures of { IfOk result (λ taken. IfSome taken (IsClaimOf S.Key.cmp N.rules)) }

@@ -1,5 +1,6 @@
 -- Joining pieces to a core, from its steps.
-use Rattle.std.proofs.Common.{◌≡◌, ℕ, ◌+◌, ◌<◌, ◌≤◌, Bool, true, false, not, List, [], ◌∷◌, length, Option, Some, None, is_some, Ordering, IsSome, IsTrue, Contains, count_by, refl, sym, ap, ◌∙◌, subst, arith, inl, inr, ◌⊎◌, ⊎_elim}
+use Rattle.std.proofs.Common.{◌≡◌, ℕ, ◌+◌, ◌<◌, ◌≤◌, Bool, true, false, not, List, [], ◌∷◌, length, Option, Some, None, is_some, Ordering, IsSome, IsTrue}
+use Rattle.std.proofs.Common.{Contains, count_by, refl, sym, ap, ◌∙◌, subst, arith, inl, inr, ◌⊎◌, ⊎_elim}
 use Rattle.std.proofs.lemmas.Map.Entries.{length-keys_of}
 use Rattle.std.specs.List.{flat_map}
 use Rattle.std.specs.Map.{keys_of}
@@ -21,7 +22,8 @@ use Rattle.flow_core.proofs.QueueLemmas.{some_when, some_from_IsSome}
 
 module _ {K V : Type 0} (cmp : K → K → Ordering) (m : Rules K V) (law : IsLawful cmp m) where
   -- room and readers alone change nothing that shows
-  pub prepared_kept : (old new : CoreState K V) → new.facts ≡ old.facts → new.out ≡ old.out → new.count ≡ old.count → new.limit ≡ old.limit → KeepsMarks cmp old.marks new.marks → KeepsReaders cmp m.reads old.readers new.readers → IsUnchanged cmp m old new
+  pub prepared_kept : (old new : CoreState K V) → new.facts ≡ old.facts → new.out ≡ old.out → new.count ≡ old.count → new.limit ≡ old.limit
+      → KeepsMarks cmp old.marks new.marks → KeepsReaders cmp m.reads old.readers new.readers → IsUnchanged cmp m old new
   prepared_kept old new facts out count limit marks readers = record {
     facts = facts;
     pending = marks.only;
@@ -31,7 +33,8 @@ module _ {K V : Type 0} (cmp : K → K → Ordering) (m : Rules K V) (law : IsLa
     kept = λ kept. record {
       rise = subst (λ es. KeysRise cmp es) (sym facts) kept.rise;
       marks_rise = marks.rise;
-      room = λ k key. some_from_IsSome (fact_at cmp old.marks k) (kept.room k (subst (λ es. IsSome (fact_at cmp es k)) facts key)) (λ b e. some_when (fact_at cmp new.marks k) b (marks.stays k b e));
+      room = λ k key. some_from_IsSome (fact_at cmp old.marks k) (kept.room k (subst (λ es. IsSome (fact_at cmp es k)) facts key))
+          (λ b e. some_when (fact_at cmp new.marks k) b (marks.stays k b e));
       listed = λ k r key listed. readers.stays r k (kept.listed k r (subst (λ es. IsSome (fact_at cmp es k)) facts key) listed);
       read = λ k r at. readers.read (λ q j c. kept.read j q c) r k at;
       count = count ∙ kept.count ∙ ap (counted_keys m) (sym facts);
@@ -39,9 +42,14 @@ module _ {K V : Type 0} (cmp : K → K → Ordering) (m : Rules K V) (law : IsLa
     };
   }
 
-  module _ (old new : CoreState K V) (pieces risen : List (K × V)) (ks woken : List K) (mid : List (K × Bool)) (fit : AllFit m (fact_at cmp old.facts)) (kept : IsKept cmp m old) (staged : IsStaged cmp m old.facts pieces risen) (ks_are : ks ≡ keys_of risen) (rise : KeysRise cmp new.facts) (all : (q : K) → fact_at cmp new.facts q ≡ written cmp old.facts risen q)
-      (room_kept : KeepsMarks cmp old.marks mid) (readers_kept : KeepsReaders cmp m.reads old.readers new.readers) (ready : (k : K) → Contains ks k → IsReady cmp m.reads old.facts mid new.readers k) (woken_are : woken ≡ flat_map (λ k. readers_of cmp new.readers k) ks) (marked : MarksAll cmp new.facts woken mid new.marks)
-      (count : new.count ≡ old.count + count_by (is_fresh_key cmp m old.facts) ks) (within : new.count ≤ new.limit) (out : new.out ≡ old.out) (limit : new.limit ≡ old.limit) where
+  module _ (old new : CoreState K V) (pieces risen : List (K × V)) (ks woken : List K) (mid : List (K × Bool)) (fit : AllFit m (fact_at cmp old.facts))
+      (kept : IsKept cmp m old) (staged : IsStaged cmp m old.facts pieces risen) (ks_are : ks ≡ keys_of risen) (rise : KeysRise cmp new.facts)
+      (all : (q : K) → fact_at cmp new.facts q ≡ written cmp old.facts risen q)
+      (room_kept : KeepsMarks cmp old.marks mid) (readers_kept : KeepsReaders cmp m.reads old.readers new.readers)
+      (ready : (k : K) → Contains ks k → IsReady cmp m.reads old.facts mid new.readers k)
+      (woken_are : woken ≡ flat_map (λ k. readers_of cmp new.readers k) ks) (marked : MarksAll cmp new.facts woken mid new.marks)
+      (count : new.count ≡ old.count + count_by (is_fresh_key cmp m old.facts) ks) (within : new.count ≤ new.limit) (out : new.out ≡ old.out)
+      (limit : new.limit ≡ old.limit) where
     in_keys : (q : K) → IsSome (fact_at cmp risen q) → Contains ks q
     in_keys q s = subst (λ list. Contains list q) (sym ks_are) (key_listed cmp law.keys risen q s)
 
@@ -50,13 +58,17 @@ module _ {K V : Type 0} (cmp : K → K → Ordering) (m : Rules K V) (law : IsLa
 
     -- what has grown is risen
     grown_is_risen : (r : K) → IsTrue (has_grown m (fact_at cmp old.facts r) (fact_at cmp new.facts r)) → IsSome (fact_at cmp risen r)
-    grown_is_risen r g = grown_cases (fact_at cmp risen r) refl (fact_at cmp old.facts r) refl (subst (λ o. IsTrue (has_grown m (fact_at cmp old.facts r) o)) (all r) g)
+    grown_is_risen r g = grown_cases (fact_at cmp risen r) refl (fact_at cmp old.facts r) refl
+        (subst (λ o. IsTrue (has_grown m (fact_at cmp old.facts r) o)) (all r) g)
       where
-        grown_cases : (o : Option V) → fact_at cmp risen r ≡ o → (p : Option V) → fact_at cmp old.facts r ≡ p → IsTrue (has_grown m (fact_at cmp old.facts r) (written cmp old.facts risen r)) → IsSome (fact_at cmp risen r)
+        grown_cases : (o : Option V) → fact_at cmp risen r ≡ o → (p : Option V) → fact_at cmp old.facts r ≡ p
+            → IsTrue (has_grown m (fact_at cmp old.facts r) (written cmp old.facts risen r)) → IsSome (fact_at cmp risen r)
         grown_cases (Some x) e p f t = some_when _ x e
-        grown_cases None e None f t = let a : has_grown m (fact_at cmp old.facts r) (written cmp old.facts risen r) ≡ false = ap (λ o. has_grown m (fact_at cmp old.facts r) (over o (fact_at cmp old.facts r))) e ∙ ap (λ o. has_grown m o o) f in absurd (cc)
+        grown_cases None e None f t = let a : has_grown m (fact_at cmp old.facts r) (written cmp old.facts risen r) ≡ false = ap
+            (λ o. has_grown m (fact_at cmp old.facts r) (over o (fact_at cmp old.facts r))) e ∙ ap (λ o. has_grown m o o) f in absurd (cc)
         grown_cases None e (Some u) f t =
-            let a : has_grown m (fact_at cmp old.facts r) (written cmp old.facts risen r) ≡ not (m.at_most u u) = ap (λ o. has_grown m (fact_at cmp old.facts r) (over o (fact_at cmp old.facts r))) e ∙ ap (λ o. has_grown m o o) f in
+            let a : has_grown m (fact_at cmp old.facts r) (written cmp old.facts risen r) ≡ not (m.at_most u u) = ap
+            (λ o. has_grown m (fact_at cmp old.facts r) (over o (fact_at cmp old.facts r))) e ∙ ap (λ o. has_grown m o o) f in
             let b = law.order.same r u (fit r u f) in
             let c = ap not b in
             absurd (cc)
@@ -74,7 +86,9 @@ module _ {K V : Type 0} (cmp : K → K → Ordering) (m : Rules K V) (law : IsLa
     listed_new k r key listed = old_or_risen k key (λ was. readers_kept.stays r k (kept.listed k r was listed)) (λ none c. (ready k c).listed none r listed)
 
     room_mid : (k : K) → IsKey cmp new k → HasRoom cmp mid k
-    room_mid k key = old_or_risen k key (λ was. some_from_IsSome (fact_at cmp old.marks k) (kept.room k was) (λ b e. some_when (fact_at cmp mid k) b (room_kept.stays k b e))) (λ none c. (ready k c).room none)
+    room_mid k key = old_or_risen k key
+        (λ was. some_from_IsSome (fact_at cmp old.marks k) (kept.room k was) (λ b e. some_when (fact_at cmp mid k) b (room_kept.stays k b e)))
+        (λ none c. (ready k c).room none)
 
     kept_new : IsKept cmp m new
     kept_new = record {
@@ -83,7 +97,9 @@ module _ {K V : Type 0} (cmp : K → K → Ordering) (m : Rules K V) (law : IsLa
       room = λ k key. marked.room k (room_mid k key);
       listed = listed_new;
       read = λ k r at. readers_kept.read (λ q j c. kept.read j q c) r k at;
-      count = count ∙ ap (λ n. n + count_by (is_fresh_key cmp m old.facts) ks) kept.count ∙ ap (λ list. counted_keys m old.facts + count_by (is_fresh_key cmp m old.facts) list) ks_are ∙ sym (new_count cmp m law old.facts risen kept.rise staged.rise new.facts rise all);
+      count = count ∙ ap (λ n. n + count_by (is_fresh_key cmp m old.facts) ks) kept.count
+          ∙ ap (λ list. counted_keys m old.facts + count_by (is_fresh_key cmp m old.facts) list) ks_are
+          ∙ sym (new_count cmp m law old.facts risen kept.rise staged.rise new.facts rise all);
       within = within;
     }
 
@@ -100,10 +116,13 @@ module _ {K V : Type 0} (cmp : K → K → Ordering) (m : Rules K V) (law : IsLa
         record {
           at = from.one;
           read = readers_kept.read (λ q j at. kept.read j q at) from.one k from.inner;
-          grown = some_from_IsSome (fact_at cmp risen from.one) s (λ v e. subst (λ o. IsTrue (has_grown m (fact_at cmp old.facts from.one) o)) (sym (all from.one ∙ ap (λ o. over o (fact_at cmp old.facts from.one)) e)) (staged.grown from.one v e));
+          grown = some_from_IsSome (fact_at cmp risen from.one) s
+              (λ v e. subst (λ o. IsTrue (has_grown m (fact_at cmp old.facts from.one) o))
+              (sym (all from.one ∙ ap (λ o. over o (fact_at cmp old.facts from.one)) e)) (staged.grown from.one v e));
         }
 
-    only_woken : (k : K) → IsMarked cmp mid k ⊎ (Contains woken k × IsSome (fact_at cmp new.facts k)) → IsPending cmp old k ⊎ (IsKey cmp new k × ReadsGrown cmp m old new k)
+    only_woken : (k : K) → IsMarked cmp mid k ⊎ (Contains woken k × IsSome (fact_at cmp new.facts k))
+        → IsPending cmp old k ⊎ (IsKey cmp new k × ReadsGrown cmp m old new k)
     only_woken k (inl was) = inl (room_kept.only k was)
     only_woken k (inr p) = inr (p.1, reads_grown k p.0)
 

@@ -1,5 +1,6 @@
 -- Pieces joined to the facts, one after another, and what is written then.
-use Rattle.std.proofs.Common.{◌≡◌, ℕ, ◌+◌, ◌<◌, ◌≤◌, Bool, true, false, not, ◌&&◌, cond, List, [], ◌∷◌, ◌++◌, length, Option, Some, None, is_some, Ordering, IsSome, IsTrue, Contains, sum_by, count_by, refl, sym, ap, ◌∙◌, subst, arith, ◌⊎◌, ⊎_elim}
+use Rattle.std.proofs.Common.{◌≡◌, ℕ, ◌+◌, ◌<◌, ◌≤◌, Bool, true, false, not, ◌&&◌, cond, List, [], ◌∷◌, ◌++◌, length, Option, Some, None, is_some, Ordering}
+use Rattle.std.proofs.Common.{IsSome, IsTrue, Contains, sum_by, count_by, refl, sym, ap, ◌∙◌, subst, arith, ◌⊎◌, ⊎_elim}
 use mathlib.Core.Path.{fun_ext}
 use Rattle.std.proofs.lemmas.List.Elements.{Contains-append_left, Contains-push, Contains-push_cases}
 use Rattle.std.proofs.lemmas.List.Sums.{sum_by-cons}
@@ -12,7 +13,8 @@ use Rattle.flow_system.specs.State.{AllFit, ContainsPiece, ContainsAll, IsBelow}
 use Rattle.flow_core.specs.Core.{Joins, has_grown, counted_keys, grown_count, PassesLimit}
 use Rattle.flow_core.specs.Staged.{over, written, PiecesFit, IsStaged, is_fresh_key}
 use Rattle.flow_core.proofs.StateLemmas.{piece_onward, below_itself, below_onward, all_onward}
-use Rattle.flow_core.proofs.EntryLemmas.{weight_at, same_key, self_key, overlay, overlay_rise, overlay_at, overlay_sum, same_entries, keys_le, sum_zero, sum_ones}
+use Rattle.flow_core.proofs.EntryLemmas.{weight_at, same_key, self_key, overlay, overlay_rise, overlay_at, overlay_sum, same_entries, keys_le, sum_zero}
+use Rattle.flow_core.proofs.EntryLemmas.{sum_ones}
 use Rattle.flow_core.proofs.QueueLemmas.{some_when}
 
 true_at : {K V : Type 0} (P : K → V → Type 0) (k j : K) (v w : V) → ◌≡◌ {A = K × V} (k, v) (j, w) → P k v → P j w
@@ -32,11 +34,13 @@ module _ {K V : Type 0} (cmp : K → K → Ordering) (m : Rules K V) (law : IsLa
   }
 
   -- a piece that is contained already
-  pub joins_contained : (s t : K → Option V) (done : List (K × V)) (k : K) (v u : V) → Joins m s done t → t k ≡ Some u → IsTrue (m.at_most v u) → Joins m s (done ++ (k, v) ∷ []) t
+  pub joins_contained : (s t : K → Option V) (done : List (K × V)) (k : K) (v u : V) → Joins m s done t → t k ≡ Some u → IsTrue (m.at_most v u)
+      → Joins m s (done ++ (k, v) ∷ []) t
   joins_contained s t done k v u joined found up = record {
     fit = joined.fit;
     below = joined.below;
-    contained = λ j w listed. ⊎_elim (λ before. joined.contained j w before) (λ here. true_at (ContainsPiece m t) k j v w here (record { fact = u; found = found; above = up })) (Contains-push_cases done (k, v) (j, w) listed);
+    contained = λ j w listed. ⊎_elim (λ before. joined.contained j w before)
+        (λ here. true_at (ContainsPiece m t) k j v w here (record { fact = u; found = found; above = up })) (Contains-push_cases done (k, v) (j, w) listed);
     least = λ x fx below has. joined.least x fx below (λ j w listed. has j w (Contains-append_left done ((k, v) ∷ []) (j, w) listed));
   }
 
@@ -63,7 +67,8 @@ module _ {K V : Type 0} (cmp : K → K → Ordering) (m : Rules K V) (law : IsLa
     least = λ x fx up there. law.least.least k u v x fu fv fx (there u refl) up;
   }
 
-  module _ (s t t' : K → Option V) (done : List (K × V)) (k : K) (v w : V) (fs : AllFit m s) (fd : PiecesFit m done) (fv : IsTrue (m.fits k v)) (joined : Joins m s done t) (raised : IsRaised k v (t k) w) (change : (q : K) → t' q ≡ cond (is_eq (cmp k q)) (Some w) (t q)) where
+  module _ (s t t' : K → Option V) (done : List (K × V)) (k : K) (v w : V) (fs : AllFit m s) (fd : PiecesFit m done) (fv : IsTrue (m.fits k v))
+      (joined : Joins m s done t) (raised : IsRaised k v (t k) w) (change : (q : K) → t' q ≡ cond (is_eq (cmp k q)) (Some w) (t q)) where
     here : t' k ≡ Some w
     here = change k ∙ ap (λ b. cond b (Some w) (t k)) (self_key cmp law.keys k)
 
@@ -76,7 +81,8 @@ module _ {K V : Type 0} (cmp : K → K → Ordering) (m : Rules K V) (law : IsLa
         key_cases false is e = other e
 
     raised_fit : AllFit m t'
-    raised_fit q a found = by_key q a found (λ is e. subst (λ x. IsTrue (m.fits x a)) is (subst (λ y. IsTrue (m.fits k y)) e raised.fit)) (λ e. joined.fit q a e)
+    raised_fit q a found = by_key q a found (λ is e. subst (λ x. IsTrue (m.fits x a)) is (subst (λ y. IsTrue (m.fits k y)) e raised.fit))
+        (λ e. joined.fit q a e)
 
     raised_below : IsBelow m t t'
     raised_below q a found = below_cases (is_eq (cmp k q)) refl
@@ -99,7 +105,9 @@ module _ {K V : Type 0} (cmp : K → K → Ordering) (m : Rules K V) (law : IsLa
     joins_raised = record {
       fit = raised_fit;
       below = λ q a found. piece_onward cmp m law t t' joined.fit raised_fit raised_below q a (fs q a found) (joined.below q a found);
-      contained = λ j x listed. ⊎_elim (λ before. contained_before j x before) (λ is. true_at (ContainsPiece m t') k j v x is (record { fact = w; found = here; above = raised.piece })) (Contains-push_cases done (k, v) (j, x) listed);
+      contained = λ j x listed. ⊎_elim (λ before. contained_before j x before)
+          (λ is. true_at (ContainsPiece m t') k j v x is (record { fact = w; found = here; above = raised.piece }))
+          (Contains-push_cases done (k, v) (j, x) listed);
       least = λ x fx below has. least_of x fx below has;
     }
       where
@@ -112,7 +120,8 @@ module _ {K V : Type 0} (cmp : K → K → Ordering) (m : Rules K V) (law : IsLa
             by_key q a found
             (λ is e.
             let p = has k v (Contains-push done (k, v)) in
-            let up : IsTrue (m.at_most w p.fact) = raised.least p.fact (fx k p.fact p.found) p.above (λ u there. let r = rest k u there in subst (λ y. IsTrue (m.at_most u y)) (same_some r.fact p.fact (sym r.found ∙ p.found)) r.above) in
+            let up : IsTrue (m.at_most w p.fact) = raised.least p.fact (fx k p.fact p.found) p.above
+            (λ u there. let r = rest k u there in subst (λ y. IsTrue (m.at_most u y)) (same_some r.fact p.fact (sym r.found ∙ p.found)) r.above) in
             record {
               fact = p.fact;
               found = subst (λ z. x z ≡ Some p.fact) is p.found;
@@ -128,14 +137,17 @@ module _ {K V : Type 0} (cmp : K → K → Ordering) (m : Rules K V) (law : IsLa
     rise = rise;
   }
 
-  pub stage_contained : (facts done risen : List (K × V)) (k : K) (v u : V) → IsStaged cmp m facts done risen → written cmp facts risen k ≡ Some u → IsTrue (m.at_most v u) → IsStaged cmp m facts (done ++ (k, v) ∷ []) risen
+  pub stage_contained : (facts done risen : List (K × V)) (k : K) (v u : V) → IsStaged cmp m facts done risen → written cmp facts risen k ≡ Some u
+      → IsTrue (m.at_most v u) → IsStaged cmp m facts (done ++ (k, v) ∷ []) risen
   stage_contained facts done risen k v u staged found up = record {
     joined = joins_contained (fact_at cmp facts) (written cmp facts risen) done k v u staged.joined found up;
     grown = staged.grown;
     rise = staged.rise;
   }
 
-  pub stage_raised : (facts done risen risen' : List (K × V)) (k : K) (v w : V) → AllFit m (fact_at cmp facts) → PiecesFit m done → IsTrue (m.fits k v) → IsStaged cmp m facts done risen → IsRaised k v (written cmp facts risen k) w → ((u : V) → written cmp facts risen k ≡ Some u → m.at_most v u ≡ false) → Writes cmp risen risen' k (Some w) → KeysRise cmp risen' → IsStaged cmp m facts (done ++ (k, v) ∷ []) risen'
+  pub stage_raised : (facts done risen risen' : List (K × V)) (k : K) (v w : V) → AllFit m (fact_at cmp facts) → PiecesFit m done → IsTrue (m.fits k v)
+      → IsStaged cmp m facts done risen → IsRaised k v (written cmp facts risen k) w → ((u : V) → written cmp facts risen k ≡ Some u → m.at_most v u ≡ false)
+      → Writes cmp risen risen' k (Some w) → KeysRise cmp risen' → IsStaged cmp m facts (done ++ (k, v) ∷ []) risen'
   stage_raised facts done risen risen' k v w ff fd fv staged raised more writes rise = record {
     joined = joins_raised (fact_at cmp facts) (written cmp facts risen) (written cmp facts risen') done k v w ff fd fv staged.joined raised change;
     grown = λ q a found. grown_cases q a (is_eq (cmp k q)) refl (sym (writes q) ∙ found);
@@ -163,17 +175,22 @@ module _ {K V : Type 0} (cmp : K → K → Ordering) (m : Rules K V) (law : IsLa
       has_cases q None there is = refl
       has_cases q (Some b) there is = no_more b (subst (λ x. fact_at cmp facts x ≡ Some b) (sym is) there) (m.at_most w b) refl
 
-      grown_cases : (q : K) (a : V) (t : Bool) → is_eq (cmp k q) ≡ t → cond t (Some w) (fact_at cmp risen q) ≡ Some a → IsTrue (has_grown m (fact_at cmp facts q) (Some a))
-      grown_cases q a true is e = subst (λ y. IsTrue (has_grown m (fact_at cmp facts q) (Some y))) (same_some w a e) (has_cases q (fact_at cmp facts q) refl (same_key cmp law.keys k q is))
+      grown_cases : (q : K) (a : V) (t : Bool) → is_eq (cmp k q) ≡ t → cond t (Some w) (fact_at cmp risen q) ≡ Some a
+          → IsTrue (has_grown m (fact_at cmp facts q) (Some a))
+      grown_cases q a true is e = subst (λ y. IsTrue (has_grown m (fact_at cmp facts q) (Some y))) (same_some w a e)
+          (has_cases q (fact_at cmp facts q) refl (same_key cmp law.keys k q is))
       grown_cases q a false is e = staged.grown q a e
 
-  split_one : (k : K) (b : Bool) → m.counted k ≡ b → (o : Option V) → cond {A = ℕ} b 1 0 ≡ weight_at (λ (e : K × V). cond (m.counted e.0) 1 0) k o + cond (b && not (is_some o)) 1 0
+  split_one : (k : K) (b : Bool) → m.counted k ≡ b → (o : Option V)
+      → cond {A = ℕ} b 1 0 ≡ weight_at (λ (e : K × V). cond (m.counted e.0) 1 0) k o + cond (b && not (is_some o)) 1 0
   split_one k true is None = refl
   split_one k true is (Some x) = let e : cond {A = ℕ} (m.counted k) 1 0 ≡ 1 = ap (λ t. cond t 1 0) is in omega (arith, e)
   split_one k false is None = refl
   split_one k false is (Some x) = let e : cond {A = ℕ} (m.counted k) 1 0 ≡ 0 = ap (λ t. cond t 1 0) is in omega (arith, e)
 
-  count_split : (facts es : List (K × V)) → sum_by (λ e. cond (m.counted e.0) 1 0) es ≡ sum_by (λ e. weight_at (λ (x : K × V). cond (m.counted x.0) 1 0) e.0 (fact_at cmp facts e.0)) es + count_by (is_fresh_key cmp m facts) (keys_of es)
+  count_split : (facts es : List (K × V))
+      → sum_by (λ e. cond (m.counted e.0) 1 0) es ≡ sum_by (λ e. weight_at (λ (x : K × V). cond (m.counted x.0) 1 0) e.0 (fact_at cmp facts e.0)) es +
+      count_by (is_fresh_key cmp m facts) (keys_of es)
   count_split facts [] = refl
   count_split facts (e ∷ es) =
       let f : K × V → ℕ = λ x. cond (m.counted x.0) 1 0 in
@@ -188,19 +205,23 @@ module _ {K V : Type 0} (cmp : K → K → Ordering) (m : Rules K V) (law : IsLa
         omega (arith, overlay_sum cmp law.keys (λ e. cond (m.counted e.0) 1 0) risen facts rise' rise, count_split facts risen)
 
     -- where the counted keys would pass the limit
-    pub passes_limit : (pieces : List (K × V)) (limit : ℕ) → IsStaged cmp m facts pieces risen → limit < counted_keys m facts + count_by (is_fresh_key cmp m facts) (keys_of risen) → PassesLimit cmp m facts pieces limit
+    pub passes_limit : (pieces : List (K × V)) (limit : ℕ) → IsStaged cmp m facts pieces risen
+        → limit < counted_keys m facts + count_by (is_fresh_key cmp m facts) (keys_of risen) → PassesLimit cmp m facts pieces limit
     passes_limit pieces limit staged more t rise_t fit below has =
         let least = staged.joined.least (fact_at cmp t) fit below has in
-        let le = keys_le cmp law.keys (λ k. cond (m.counted k) 1 0) (overlay cmp law.keys risen facts) t (overlay_rise cmp law.keys risen facts rise) rise_t (λ q s. in_t least q (written cmp facts risen q) refl (subst (λ (o : Option V). IsSome o) (overlay_at cmp law.keys risen facts rise' q) s)) in
+        let le = keys_le cmp law.keys (λ k. cond (m.counted k) 1 0) (overlay cmp law.keys risen facts) t (overlay_rise cmp law.keys risen facts rise) rise_t
+        (λ q s. in_t least q (written cmp facts risen q) refl (subst (λ (o : Option V). IsSome o) (overlay_at cmp law.keys risen facts rise' q) s)) in
         omega (arith, le, overlay_count, more)
       where
-        in_t : IsBelow m (written cmp facts risen) (fact_at cmp t) → (q : K) (o : Option V) → written cmp facts risen q ≡ o → IsSome o → IsSome (fact_at cmp t q)
+        in_t : IsBelow m (written cmp facts risen) (fact_at cmp t) → (q : K) (o : Option V) → written cmp facts risen q ≡ o → IsSome o
+            → IsSome (fact_at cmp t q)
         in_t least q None is s = let f : false ≡ true = s in absurd (cc)
         in_t least q (Some x) is s = some_when (fact_at cmp t q) (least q x is).fact (least q x is).found
 
     module _ (new : List (K × V)) (rise_new : KeysRise cmp new) (all : (q : K) → fact_at cmp new q ≡ written cmp facts risen q) where
       whole : new ≡ overlay cmp law.keys risen facts
-      whole = same_entries cmp law.keys new (overlay cmp law.keys risen facts) rise_new (overlay_rise cmp law.keys risen facts rise) (λ q. all q ∙ sym (overlay_at cmp law.keys risen facts rise' q))
+      whole = same_entries cmp law.keys new (overlay cmp law.keys risen facts) rise_new (overlay_rise cmp law.keys risen facts rise)
+          (λ q. all q ∙ sym (overlay_at cmp law.keys risen facts rise' q))
 
       pub new_count : counted_keys m new ≡ counted_keys m facts + count_by (is_fresh_key cmp m facts) (keys_of risen)
       new_count = ap (counted_keys m) whole ∙ overlay_count
@@ -226,6 +247,7 @@ module _ {K V : Type 0} (cmp : K → K → Ordering) (m : Rules K V) (law : IsLa
               let same = law.order.same k u (fit k u there) in
               ap (λ b. cond b 1 0) (e ∙ ap not same)
 
-          zero_weight : (k : K) (o : Option V) → fact_at cmp facts k ≡ o → weight_at (λ (e : K × V). cond (has_grown m (fact_at cmp facts e.0) (Some e.1)) 1 0) k o ≡ 0
+          zero_weight : (k : K) (o : Option V) → fact_at cmp facts k ≡ o
+              → weight_at (λ (e : K × V). cond (has_grown m (fact_at cmp facts e.0) (Some e.1)) 1 0) k o ≡ 0
           zero_weight k None there = refl
           zero_weight k (Some u) there = zero_fact k u there

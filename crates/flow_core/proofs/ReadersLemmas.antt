@@ -1,5 +1,6 @@
 -- The lists of readers, over plain entries.
-use Rattle.std.proofs.Common.{◌≡◌, ℕ, Bool, true, false, cond, List, [], ◌∷◌, ◌++◌, Option, Some, None, Result, Ok, Err, Ordering, IsSome, OnErr, OnOk, Vec, Global, refl, sym, ap, ◌∙◌, subst}
+use Rattle.std.proofs.Common.{◌≡◌, ℕ, Bool, true, false, cond, List, [], ◌∷◌, ◌++◌, Option, Some, None, Result, Ok, Err, Ordering, IsSome, OnErr, OnOk, Vec}
+use Rattle.std.proofs.Common.{Global, refl, sym, ap, ◌∙◌, subst}
 use Rattle.std.proofs.lemmas.Cmp.{eq_by_cmp_equiv}
 use Rattle.std.specs.Cmp.{IsTotalOrder, IsEquivalence}
 use Rattle.std.specs.Option.{option_map}
@@ -28,7 +29,8 @@ module _ {K : Type 0} (cmp : K → K → Ordering) where
   readers-is [] q = refl
   readers-is (e ∷ es) q = readers_cases (is_eq (cmp q e.0)) (readers-is es q)
     where
-      readers_cases : (b : Bool) → readers_of cmp (lists_of es) q ≡ held (fact_at cmp es q) → list_or_none (cond b (Some e.1.items) (fact_at cmp (lists_of es) q)) ≡ held (cond b (Some e.1) (fact_at cmp es q))
+      readers_cases : (b : Bool) → readers_of cmp (lists_of es) q ≡ held (fact_at cmp es q)
+          → list_or_none (cond b (Some e.1.items) (fact_at cmp (lists_of es) q)) ≡ held (cond b (Some e.1) (fact_at cmp es q))
       readers_cases true rest = refl
       readers_cases false rest = rest
 
@@ -38,7 +40,8 @@ module _ {K : Type 0} (cmp : K → K → Ordering) where
   pub readers_some : (es : List (K × Vec K Global)) (q : K) (list : Vec K Global) → Some list ≡ fact_at cmp es q → readers_of cmp (lists_of es) q ≡ list.items
   readers_some es q list h = readers-is es q ∙ ap held (sym h)
 
-  module _ (total : IsTotalOrder cmp) (es es' : List (K × Vec K Global)) (k : K) (w : Vec K Global) (written : (q : K) → fact_at cmp es' q ≡ cond (is_eq (cmp k q)) (Some w) (fact_at cmp es q)) where
+  module _ (total : IsTotalOrder cmp) (es es' : List (K × Vec K Global)) (k : K) (w : Vec K Global)
+      (written : (q : K) → fact_at cmp es' q ≡ cond (is_eq (cmp k q)) (Some w) (fact_at cmp es q)) where
     readers_written : (q : K) → readers_of cmp (lists_of es') q ≡ cond (is_eq (cmp k q)) w.items (readers_of cmp (lists_of es) q)
     readers_written q = readers-is es' q ∙ ap held (written q) ∙ written_cases (is_eq (cmp k q))
       where
@@ -56,5 +59,7 @@ module _ {K : Type 0} (cmp : K → K → Ordering) where
         same_cases true e = h ∙ readers-is es k ∙ ap held (sym (alike cmp total es k q e)) ∙ sym (readers-is es q)
         same_cases false e = refl
 
-  pub set_written : (total : IsTotalOrder cmp) (es es' : List (K × Vec K Global)) (k : K) (list w : Vec K Global) → Some list ≡ fact_at cmp es k → es' ≡ set_value (is_at (cmp k)) es w → (q : K) → fact_at cmp es' q ≡ cond (is_eq (cmp k q)) (Some w) (fact_at cmp es q)
-  set_written total es es' k list w h is q = subst (λ entries. fact_at cmp entries q ≡ cond (is_eq (cmp k q)) (Some w) (fact_at cmp es q)) (sym is) (at_set cmp total es k w (some_when _ list (sym h)) q)
+  pub set_written : (total : IsTotalOrder cmp) (es es' : List (K × Vec K Global)) (k : K) (list w : Vec K Global) → Some list ≡ fact_at cmp es k
+      → es' ≡ set_value (is_at (cmp k)) es w → (q : K) → fact_at cmp es' q ≡ cond (is_eq (cmp k q)) (Some w) (fact_at cmp es q)
+  set_written total es es' k list w h is q = subst (λ entries. fact_at cmp entries q ≡ cond (is_eq (cmp k q)) (Some w) (fact_at cmp es q)) (sym is)
+      (at_set cmp total es k w (some_when _ list (sym h)) q)

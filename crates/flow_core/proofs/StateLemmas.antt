@@ -1,5 +1,6 @@
 -- What is contained and what is due, over states as functions.
-use Rattle.std.proofs.Common.{◌≡◌, ℕ, ◌<◌, Bool, true, false, List, [], ◌∷◌, Option, Some, None, Ordering, IsSome, IsTrue, Contains, refl, sym, ap, ◌∙◌, subst, arith}
+use Rattle.std.proofs.Common.{◌≡◌, ℕ, ◌<◌, Bool, true, false, List, [], ◌∷◌, Option, Some, None, Ordering, IsSome, IsTrue, Contains, refl, sym, ap, ◌∙◌}
+use Rattle.std.proofs.Common.{subst, arith}
 use Rattle.flow_system.specs.Laws.{IsLawful}
 use Rattle.flow_system.specs.Rules.{Rules}
 use Rattle.flow_system.specs.State.{AllFit, ContainsPiece, ContainsAll, IsBelow, IsCovered, IsClosed, IsDue, AllDue, HoldsDue, IsDueGraph}
@@ -8,7 +9,8 @@ use Rattle.flow_core.specs.Staged.{PiecesFit}
 use Rattle.flow_core.proofs.QueueLemmas.{some_when, some_from_IsSome}
 
 module _ {K V : Type 0} (cmp : K → K → Ordering) (m : Rules K V) (law : IsLawful cmp m) where
-  pub piece_onward : (s t : K → Option V) → AllFit m s → AllFit m t → IsBelow m s t → (k : K) (v : V) → IsTrue (m.fits k v) → ContainsPiece m s k v → ContainsPiece m t k v
+  pub piece_onward : (s t : K → Option V) → AllFit m s → AllFit m t → IsBelow m s t → (k : K) (v : V) → IsTrue (m.fits k v) → ContainsPiece m s k v
+      → ContainsPiece m t k v
   piece_onward s t fs ft below k v fv p =
       let q = below k p.fact p.found in
       record {
@@ -23,10 +25,12 @@ module _ {K V : Type 0} (cmp : K → K → Ordering) (m : Rules K V) (law : IsLa
   pub below_onward : (s t u : K → Option V) → AllFit m s → AllFit m t → AllFit m u → IsBelow m s t → IsBelow m t u → IsBelow m s u
   below_onward s t u fs ft fu st tu k v found = piece_onward t u ft fu tu k v (fs k v found) (st k v found)
 
-  pub all_onward : (s t : K → Option V) → AllFit m s → AllFit m t → IsBelow m s t → (pieces : List (K × V)) → PiecesFit m pieces → ContainsAll m s pieces → ContainsAll m t pieces
+  pub all_onward : (s t : K → Option V) → AllFit m s → AllFit m t → IsBelow m s t → (pieces : List (K × V)) → PiecesFit m pieces → ContainsAll m s pieces
+      → ContainsAll m t pieces
   all_onward s t fs ft below pieces fp has k v listed = piece_onward s t fs ft below k v (fp k v listed) (has k v listed)
 
-  pub covered_contained : (t : K → Option V) → AllFit m t → (pieces others : List (K × V)) → PiecesFit m pieces → PiecesFit m others → IsCovered m pieces others → ContainsAll m t others → ContainsAll m t pieces
+  pub covered_contained : (t : K → Option V) → AllFit m t → (pieces others : List (K × V)) → PiecesFit m pieces → PiecesFit m others
+      → IsCovered m pieces others → ContainsAll m t others → ContainsAll m t pieces
   covered_contained t ft pieces others fp fo covered has k v listed =
       let c = covered k v listed in
       let p = has k c.fact c.listed in
@@ -47,7 +51,8 @@ module _ {K V : Type 0} (cmp : K → K → Ordering) (m : Rules K V) (law : IsLa
   given_due s fs due j own k v listed t closed =
       let st : IsBelow m s t = λ q w found. due q w found t closed in
       let key : IsSome (t j) = some_from_IsSome (s j) own (λ w found. some_when (t j) (st j w found).fact (st j w found).found) in
-      covered_contained t closed.fit (m.gives j s) (m.gives j t) (gives_fit s fs j) (gives_fit t closed.fit j) (law.monotone s t fs closed.fit st j) (closed.given j key) k v listed
+      covered_contained t closed.fit (m.gives j s) (m.gives j t) (gives_fit s fs j) (gives_fit t closed.fit j) (law.monotone s t fs closed.fit st j)
+      (closed.given j key) k v listed
 
   pub starts_due : AllDue m m.starts
   starts_due k v listed t closed = closed.starts k v listed

@@ -1,5 +1,6 @@
 -- The state of a core, and when it is good.
-use Rattle.std.specs.Prelude.{◌≡◌, ℕ, ◌<◌, ◌≤◌, Bool, true, false, not, List, [], ◌++◌, ◌∷◌, Option, Some, None, IsSome, IsTrue, Contains, count_by, position, remove}
+use Rattle.std.specs.Prelude.{◌≡◌, ℕ, ◌<◌, ◌≤◌, Bool, true, false, not, List, [], ◌++◌, ◌∷◌, Option, Some, None, IsSome, IsTrue, Contains, count_by}
+use Rattle.std.specs.Prelude.{position, remove}
 use Rattle.std.specs.Ordering.{is_eq}
 use Rattle.std.specs.declared.cmp.Ordering.{Ordering}
 use Rattle.flow_system.specs.Facts.{fact_at, KeysRise}
@@ -116,7 +117,8 @@ module _ {K V : Type 0} (cmp : K → K → Ordering) (m : Rules K V) where
 
   -- each state that contains the facts and the pieces has more counted keys than the limit
   abbrev pub PassesLimit : List (K × V) → List (K × V) → ℕ → Type 0
-  PassesLimit facts pieces limit = (t : List (K × V)) → KeysRise cmp t → AllFit m (fact_at cmp t) → IsBelow m (fact_at cmp facts) (fact_at cmp t) → ContainsAll m (fact_at cmp t) pieces → limit < counted_keys m t
+  PassesLimit facts pieces limit = (t : List (K × V)) → KeysRise cmp t → AllFit m (fact_at cmp t) → IsBelow m (fact_at cmp facts) (fact_at cmp t)
+      → ContainsAll m (fact_at cmp t) pieces → limit < counted_keys m t
 
   -- each closed state has more counted keys than the limit
   abbrev pub IsOver : ℕ → Type 0

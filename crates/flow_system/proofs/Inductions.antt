@@ -31,7 +31,8 @@ module _ {K V : Type 0} (test : K → V → Bool) where
   kept_at : (s : K → Option V) (k : K) (v : V) → s k ≡ Some v → test k v ≡ true → kept k (s k) ≡ Some v
   kept_at s k v found passes = ap (kept k) found ∙ ap (λ b. cond b (Some v) None) passes
 
-module _ {K V : Type 0} (cmp : K → K → Ordering) (m : Rules K V) (law : IsLawful cmp m) (s : K → Option V) (test : K → V → Bool) (closed : IsClosed m s) (on : IsHandedOn m s test) where
+module _ {K V : Type 0} (cmp : K → K → Ordering) (m : Rules K V) (law : IsLawful cmp m) (s : K → Option V) (test : K → V → Bool) (closed : IsClosed m s)
+    (on : IsHandedOn m s test) where
   -- the state's facts that pass
   abbrev pub passed : K → Option V
   passed k = kept test k (s k)
@@ -43,7 +44,8 @@ module _ {K V : Type 0} (cmp : K → K → Ordering) (m : Rules K V) (law : IsLa
   passed_below k v found = record { fact = v; found = (kept_is test k (s k) v found).0; above = law.order.same k v (passed_fit k v found) }
 
   -- a piece that the state contains and that passes is contained in what passes
-  passed_contains : (k : K) (v w : V) → IsTrue (m.fits k v) → IsTrue (m.fits k w) → IsTrue (m.at_most v w) → IsTrue (test k w) → ContainsPiece m s k w → ContainsPiece m passed k v
+  passed_contains : (k : K) (v w : V) → IsTrue (m.fits k v) → IsTrue (m.fits k w) → IsTrue (m.at_most v w) → IsTrue (test k w) → ContainsPiece m s k w
+      → ContainsPiece m passed k v
   passed_contains k v w fv fw up passes p = record {
     fact = p.fact;
     found = kept_at test s k p.fact p.found (on.greater k w p.fact fw (closed.fit k p.fact p.found) p.above passes);
@@ -56,14 +58,15 @@ module _ {K V : Type 0} (cmp : K → K → Ordering) (m : Rules K V) (law : IsLa
       let own = kept_is test j (s j) u e in
       let c = law.monotone passed s passed_fit closed.fit passed_below j k v listed in
       passed_contains k v c.fact (law.fit.gives j passed passed_fit k v listed) (law.fit.gives j s closed.fit k c.fact c.listed) c.above
-          (on.given j u own.0 own.1 k c.fact c.listed)
-          (closed.given j (has_key (s j) u own.0) k c.fact c.listed)
+      (on.given j u own.0 own.1 k c.fact c.listed)
+      (closed.given j (has_key (s j) u own.0) k c.fact c.listed)
 
   -- what passes is closed
   pub passed_closed : IsClosed m passed
   passed_closed = record {
     fit = passed_fit;
-    starts = λ k v listed. passed_contains k v v (law.fit.starts k v listed) (law.fit.starts k v listed) (law.order.same k v (law.fit.starts k v listed)) (on.starts k v listed) (closed.starts k v listed);
+    starts = λ k v listed. passed_contains k v v (law.fit.starts k v listed) (law.fit.starts k v listed) (law.order.same k v (law.fit.starts k v listed))
+        (on.starts k v listed) (closed.starts k v listed);
     given = λ j has. passed_given j (passed j) refl has;
   }
 
@@ -74,7 +77,8 @@ module _ {K V : Type 0} (cmp : K → K → Ordering) (m : Rules K V) (law : IsLa
       let own = kept_is test k (s k) p.fact p.found in
       record { fact = p.fact; found = own.0; above = p.above; passes = own.1 }
 
-module _ {K V : Type 0} (cmp : K → K → Ordering) (m : Rules K V) (law : IsLawful cmp m) (s : K → Option V) (test : K → V → Bool) (graph : IsDueGraph m s) (on : IsHandedOn m s test) where
+module _ {K V : Type 0} (cmp : K → K → Ordering) (m : Rules K V) (law : IsLawful cmp m) (s : K → Option V) (test : K → V → Bool) (graph : IsDueGraph m s)
+    (on : IsHandedOn m s test) where
   -- each fact of the due graph passes
   pub graph_passes : (k : K) (v : V) → s k ≡ Some v → IsTrue (test k v)
   graph_passes k v found =
@@ -84,14 +88,16 @@ module _ {K V : Type 0} (cmp : K → K → Ordering) (m : Rules K V) (law : IsLa
 
 module _ {K V : Type 0} (cmp cmp' : K → K → Ordering) (m n : Rules K V) (law : IsLawful cmp m) (other : IsLawful cmp' n) (finer : IsFiner m n) where
   -- pieces that are covered by what a state of the coarser system contains
-  covered_in : (t : K → Option V) → AllFit n t → (pieces others : List (K × V)) → ((k : K) (v : V) → Contains pieces (k, v) → IsTrue (m.fits k v)) → ((k : K) (v : V) → Contains others (k, v) → IsTrue (n.fits k v)) → IsCovered m pieces others → ContainsAll n t others → ContainsAll m t pieces
+  covered_in : (t : K → Option V) → AllFit n t → (pieces others : List (K × V)) → ((k : K) (v : V) → Contains pieces (k, v) → IsTrue (m.fits k v))
+      → ((k : K) (v : V) → Contains others (k, v) → IsTrue (n.fits k v)) → IsCovered m pieces others → ContainsAll n t others → ContainsAll m t pieces
   covered_in t ft pieces others fp fo covered has k v listed =
       let c = covered k v listed in
       let p = has k c.fact c.listed in
       record {
         fact = p.fact;
         found = p.found;
-        above = law.order.onward k v c.fact p.fact (fp k v listed) (finer.fits k c.fact (fo k c.fact c.listed)) (finer.fits k p.fact (ft k p.fact p.found)) c.above (finer.order c.fact p.fact p.above);
+        above = law.order.onward k v c.fact p.fact (fp k v listed) (finer.fits k c.fact (fo k c.fact c.listed)) (finer.fits k p.fact (ft k p.fact p.found))
+            c.above (finer.order c.fact p.fact p.above);
       }
 
   -- a state that is closed in the coarser system is closed in the finer one
@@ -99,7 +105,8 @@ module _ {K V : Type 0} (cmp cmp' : K → K → Ordering) (m n : Rules K V) (law
   closed_in_finer t closed = record {
     fit = fit;
     starts = covered_in t closed.fit m.starts n.starts law.fit.starts other.fit.starts finer.starts closed.starts;
-    given = λ k has. covered_in t closed.fit (m.gives k t) (n.gives k t) (law.fit.gives k t fit) (other.fit.gives k t closed.fit) (finer.gives k t closed.fit) (closed.given k has);
+    given = λ k has. covered_in t closed.fit (m.gives k t) (n.gives k t) (law.fit.gives k t fit) (other.fit.gives k t closed.fit) (finer.gives k t closed.fit)
+        (closed.given k has);
   }
     where
       fit : AllFit m t

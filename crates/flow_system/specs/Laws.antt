@@ -21,14 +21,16 @@ module _ {K V : Type 0} where
   -- `at_most` is an order
   pub record OrdersFacts (m : Rules K V) : Type 0 where
     pub same : (k : K) (a : V) → IsTrue (m.fits k a) → IsTrue (m.at_most a a)
-    pub onward : (k : K) (a b c : V) → IsTrue (m.fits k a) → IsTrue (m.fits k b) → IsTrue (m.fits k c) → IsTrue (m.at_most a b) → IsTrue (m.at_most b c) → IsTrue (m.at_most a c)
+    pub onward : (k : K) (a b c : V) → IsTrue (m.fits k a) → IsTrue (m.fits k b) → IsTrue (m.fits k c) → IsTrue (m.at_most a b) → IsTrue (m.at_most b c)
+        → IsTrue (m.at_most a c)
     pub both : (k : K) (a b : V) → IsTrue (m.fits k a) → IsTrue (m.fits k b) → IsTrue (m.at_most a b) → IsTrue (m.at_most b a) → a ≡ b
 
   -- `join` is the least fact that is at least both
   pub record JoinsLeast (m : Rules K V) : Type 0 where
     pub first : (k : K) (a b : V) → IsTrue (m.fits k a) → IsTrue (m.fits k b) → IsTrue (m.at_most a (m.join a b))
     pub second : (k : K) (a b : V) → IsTrue (m.fits k a) → IsTrue (m.fits k b) → IsTrue (m.at_most b (m.join a b))
-    pub least : (k : K) (a b c : V) → IsTrue (m.fits k a) → IsTrue (m.fits k b) → IsTrue (m.fits k c) → IsTrue (m.at_most a c) → IsTrue (m.at_most b c) → IsTrue (m.at_most (m.join a b) c)
+    pub least : (k : K) (a b c : V) → IsTrue (m.fits k a) → IsTrue (m.fits k b) → IsTrue (m.fits k c) → IsTrue (m.at_most a c) → IsTrue (m.at_most b c)
+        → IsTrue (m.at_most (m.join a b) c)
 
   -- over a greater state a key gives no less
   abbrev pub GivesMonotone : Rules K V → Type 0

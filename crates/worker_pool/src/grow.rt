@@ -21,11 +21,7 @@ pub const NODE_LIMIT: u64 = 131_072;
 /// Drives a core to its end and closes it: its facts are the due graph, whatever was done to the core before.
 ///
 /// Nodes comes exactly where the due graph has more counted keys than the core's limit. A refusal drops the core.
-pub fn settle<S: System>(
-    alloc: Global,
-    core: Core<S>,
-    system: &S,
-) -> Result<Closed<S>, GrowRefusal>
+pub fn settle<S: System>(alloc: Global, core: Core<S>, system: &S) -> Result<Closed<S>, GrowRefusal>
     requires { IsGood S.Key.cmp (S.rules system.now) core }
     ensures due { IfOk result (λ closed. IsDueGraph (S.rules system.now) (fact_at S.Key.cmp closed)) }
     ensures within { IfOk result (λ closed. counted_keys (S.rules system.now) closed ≤ core.limit) }

@@ -18,7 +18,8 @@ loop-place-preserved g c =
     let within : c.loop-place.place < length items = omega (arith, c.loop-place-test.true, c.len-place-end.ensures, c.args.out.now.ok.0, ap length inv.same) in
     record {
       same = inv.same;
-      before = before_more g.K.Ord.cmp items c.args.k c.loop-place.place c.index.result.now within c.index.ensures (not_equal_is_eq c.cmp.result _ c.cmp.ensures c.in_default.not-Equal) inv.before;
+      before = before_more g.K.Ord.cmp items c.args.k c.loop-place.place c.index.result.now within c.index.ensures
+          (not_equal_is_eq c.cmp.result _ c.cmp.ensures c.in_default.not-Equal) inv.before;
     }
 
 pub returns : goal.returns
@@ -26,4 +27,5 @@ returns g c =
     let inv = c.loop-place.invariant in
     let items = c.loop-place.out.items in
     subst (λ list. items ≡ strike g.K.Ord.cmp list c.args.k) inv.same
-    (struck_none g.K.Ord.cmp items c.args.k c.loop-place.place (omega (arith, c.loop-place-test.false, c.len-place-end.ensures, c.args.out.now.ok.0, ap length inv.same)) inv.before)
+    (struck_none g.K.Ord.cmp items c.args.k c.loop-place.place (omega
+    (arith, c.loop-place-test.false, c.len-place-end.ensures, c.args.out.now.ok.0, ap length inv.same)) inv.before)

@@ -14,7 +14,8 @@ loop-turn-init g c =
     record {
       good = struck.good;
       none_out = struck.none_out;
-      grows = subst (λ facts. IsBelow m (fact_at cmp c.args.core.now.facts) (fact_at cmp facts)) (sym struck.facts) (below_itself cmp m (g.met.S.System.lawful c.args.system.now) (fact_at cmp c.args.core.now.facts) c.requires.part.fit);
+      grows = subst (λ facts. IsBelow m (fact_at cmp c.args.core.now.facts) (fact_at cmp facts)) (sym struck.facts)
+          (below_itself cmp m (g.met.S.System.lawful c.args.system.now) (fact_at cmp c.args.core.now.facts) c.requires.part.fit);
       limit = struck.limit;
     }
 
@@ -23,14 +24,16 @@ returns-in_err-step-clause-grows g c =
     let cmp = g.S.Key.Ord.cmp in
     let step = c.in_err-step.ensures in
     let inv = c.loop-turn.invariant in
-    below_onward cmp (g.S.System.rules c.args.system.now) (g.met.S.System.lawful c.args.system.now) (fact_at cmp c.args.core.now.facts) (fact_at cmp c.loop-turn.core.facts) (fact_at cmp c.step.new.core.facts) c.requires.part.fit inv.good.part.fit step.good.part.fit inv.grows step.grows
+    below_onward cmp (g.S.System.rules c.args.system.now) (g.met.S.System.lawful c.args.system.now) (fact_at cmp c.args.core.now.facts)
+    (fact_at cmp c.loop-turn.core.facts) (fact_at cmp c.step.new.core.facts) c.requires.part.fit inv.good.part.fit step.good.part.fit inv.grows step.grows
 
 pub returns-then-not-branch-clause-grows : goal.returns-then-not-branch-clause-grows
 returns-then-not-branch-clause-grows g c =
     let cmp = g.S.Key.Ord.cmp in
     let step = c.in_ok-step.ensures in
     let inv = c.loop-turn.invariant in
-    below_onward cmp (g.S.System.rules c.args.system.now) (g.met.S.System.lawful c.args.system.now) (fact_at cmp c.args.core.now.facts) (fact_at cmp c.loop-turn.core.facts) (fact_at cmp c.step.new.core.facts) c.requires.part.fit inv.good.part.fit step.good.part.fit inv.grows step.grows
+    below_onward cmp (g.S.System.rules c.args.system.now) (g.met.S.System.lawful c.args.system.now) (fact_at cmp c.args.core.now.facts)
+    (fact_at cmp c.loop-turn.core.facts) (fact_at cmp c.step.new.core.facts) c.requires.part.fit inv.good.part.fit step.good.part.fit inv.grows step.grows
 
 pub loop-turn-preserved : goal.loop-turn-preserved
 loop-turn-preserved g c =
@@ -40,6 +43,8 @@ loop-turn-preserved g c =
     record {
       good = step.good;
       none_out = step.none_out;
-      grows = below_onward cmp (g.S.System.rules c.args.system.now) (g.met.S.System.lawful c.args.system.now) (fact_at cmp c.args.core.now.facts) (fact_at cmp c.loop-turn.core.facts) (fact_at cmp c.step.new.core.facts) c.requires.part.fit inv.good.part.fit step.good.part.fit inv.grows step.grows;
+      grows = below_onward cmp (g.S.System.rules c.args.system.now) (g.met.S.System.lawful c.args.system.now) (fact_at cmp c.args.core.now.facts)
+          (fact_at cmp c.loop-turn.core.facts) (fact_at cmp c.step.new.core.facts)
+          c.requires.part.fit inv.good.part.fit step.good.part.fit inv.grows step.grows;
       limit = step.limit ∙ inv.limit;
     }

@@ -10,4 +10,5 @@ loop-k-init g c =
 
 pub loop-k-preserved : goal.loop-k-preserved
 loop-k-preserved g c =
-    copy_more g.S.Key.Ord.cmp (g.met.S.System.lawful c.args.system.now).keys c.args.facts.now c.args.keys.now c.loop-k.k-index c.k-item.result c.loop-k.copies c.copy_fact.new.copies c.loop-k-test.true c.k-item.is c.loop-k.invariant c.in_ok-copy_fact.ensures
+    copy_more g.S.Key.Ord.cmp (g.met.S.System.lawful c.args.system.now).keys c.args.facts.now c.args.keys.now c.loop-k.k-index c.k-item.result c.loop-k.copies
+    c.copy_fact.new.copies c.loop-k-test.true c.k-item.is c.loop-k.invariant c.in_ok-copy_fact.ensures

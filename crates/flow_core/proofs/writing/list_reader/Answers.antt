@@ -8,7 +8,8 @@ pub returns-in_err-add-clause-keeps : goal.returns-in_err-add-clause-keeps
 returns-in_err-add-clause-keeps g c =
     let cmp = g.S.Key.Ord.cmp in
     let reads = (g.S.System.rules c.args.system.now).reads in
-    readers_onward cmp reads c.args.readers.now c.loop-r.readers c.add.new.self c.loop-r.invariant.keeps (readers_unchanged cmp reads c.loop-r.readers c.add.new.self c.in_err-add.ensures.same)
+    readers_onward cmp reads c.args.readers.now c.loop-r.readers c.add.new.self c.loop-r.invariant.keeps
+    (readers_unchanged cmp reads c.loop-r.readers c.add.new.self c.in_err-add.ensures.same)
 
 pub loop-r-preserved : goal.loop-r-preserved
 loop-r-preserved g c =
@@ -17,9 +18,11 @@ loop-r-preserved g c =
     let reads = (g.S.System.rules c.args.system.now).reads in
     let r = c.r-item.result in
     let items = c.deref-r-items.result.now in
-    let listed : Contains (reads c.args.k) r = subst (λ list. Contains list r) (c.deref-r-items.ensures.value ∙ c.in_ok-reads.ensures) (listed_at items c.loop-r.r-index r c.loop-r-test.true c.r-item.is) in
+    let listed : Contains (reads c.args.k) r = subst (λ list. Contains list r) (c.deref-r-items.ensures.value ∙ c.in_ok-reads.ensures)
+    (listed_at items c.loop-r.r-index r c.loop-r-test.true c.r-item.is) in
     let added = reader_added cmp keys reads c.loop-r.readers c.add.new.self r c.args.k listed c.in_ok-add.ensures.added in
     record {
       keeps = readers_onward cmp reads c.args.readers.now c.loop-r.readers c.add.new.self c.loop-r.invariant.keeps added.0;
-      lists = lists_more cmp items c.loop-r.r-index r c.args.k c.loop-r.readers c.add.new.self c.loop-r-test.true c.r-item.is c.loop-r.invariant.lists added.0.stays added.1;
+      lists = lists_more cmp items c.loop-r.r-index r c.args.k c.loop-r.readers c.add.new.self c.loop-r-test.true c.r-item.is
+          c.loop-r.invariant.lists added.0.stays added.1;
     }

@@ -20,6 +20,12 @@ loop-k-preserved g c =
     let old = c.args.queue.now in
     let inv = c.loop-k.invariant in
     elim c.if-is_some.branch [
-      | then-is_some w ↦ subst (λ marks. MarksAll cmp facts (take (i + 1) ks) old marks) (sym (w.queue-is ∙ w.mark.ensures.marked)) (marks_next cmp facts ks i k old (with_mark cmp c.loop-k.queue k true) c.loop-k-test.true c.k-item.is (marks_more cmp keys facts (take i ks) old c.loop-k.queue inv k (found_by c.get.result _ true c.get.ensures.fact (sym c.is_some.ensures ∙ w.if-is_some.true))))
-      | else-is_some w ↦ subst (λ marks. MarksAll cmp facts (take (i + 1) ks) old marks) (sym w.queue-is) (marks_next cmp facts ks i k old c.loop-k.queue c.loop-k-test.true c.k-item.is (marks_absent cmp keys facts (take i ks) old c.loop-k.queue inv k (none_from_absent _ (found_by c.get.result _ false c.get.ensures.fact (sym c.is_some.ensures ∙ w.if-is_some.false)))))
+      | then-is_some w ↦ subst (λ marks. MarksAll cmp facts (take (i + 1) ks) old marks) (sym (w.queue-is ∙ w.mark.ensures.marked))
+          (marks_next cmp facts ks i k old (with_mark cmp c.loop-k.queue k true) c.loop-k-test.true c.k-item.is
+          (marks_more cmp keys facts (take i ks) old c.loop-k.queue inv k
+          (found_by c.get.result _ true c.get.ensures.fact (sym c.is_some.ensures ∙ w.if-is_some.true))))
+      | else-is_some w ↦ subst (λ marks. MarksAll cmp facts (take (i + 1) ks) old marks) (sym w.queue-is)
+          (marks_next cmp facts ks i k old c.loop-k.queue c.loop-k-test.true c.k-item.is
+          (marks_absent cmp keys facts (take i ks) old c.loop-k.queue inv k
+          (none_from_absent _ (found_by c.get.result _ false c.get.ensures.fact (sym c.is_some.ensures ∙ w.if-is_some.false)))))
     ]

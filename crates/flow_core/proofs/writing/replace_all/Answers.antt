@@ -11,5 +11,6 @@ loop-k-preserved g c =
       whole = λ q. step.whole q ∙ inv.whole q;
       there = step.there;
       less = λ q s. inv.less q (step.less q s);
-      gone = gone_more g.K.Ord.cmp c.args.keys.now c.loop-k.k-index c.k-item.result c.loop-k.risen c.replace.new.risen c.loop-k-test.true c.k-item.is inv.gone step.less step.gone;
+      gone = gone_more g.K.Ord.cmp c.args.keys.now c.loop-k.k-index c.k-item.result c.loop-k.risen c.replace.new.risen c.loop-k-test.true
+          c.k-item.is inv.gone step.less step.gone;
     }

@@ -24,21 +24,28 @@ loop-k-preserved g c =
     let inv = c.loop-k.invariant in
     elim c.if-is_none.branch [
       | then-is_none+in-Some-1 w ↦
-          let none : fact_at cmp risen k ≡ None = none_from_absent _ (found_by c.get.result _ false c.get.ensures.fact (c.is_none.ensures ∙ ap not w.if-is_none.true)) in
+          let none : fact_at cmp risen k ≡ None = none_from_absent _ (found_by c.get.result _ false c.get.ensures.fact
+          (c.is_none.ensures ∙ ap not w.if-is_none.true)) in
           record {
-            back = subst (λ new. TakesBack cmp facts risen (take (i + 1) ks) new) (sym w.facts-is) (back_removed cmp keys facts risen ks i k c.loop-k.facts c.loop-k-test.true c.k-item.is inv.back w.remove.new.self none w.remove.ensures.written);
+            back = subst (λ new. TakesBack cmp facts risen (take (i + 1) ks) new) (sym w.facts-is)
+                (back_removed cmp keys facts risen ks i k c.loop-k.facts c.loop-k-test.true c.k-item.is inv.back w.remove.new.self none
+                w.remove.ensures.written);
             rise = subst (λ new. KeysRise cmp new) (sym w.facts-is) w.remove.ensures.rise;
           }
       | then-is_none+in-None-1 w ↦
-          let none : fact_at cmp risen k ≡ None = none_from_absent _ (found_by c.get.result _ false c.get.ensures.fact (c.is_none.ensures ∙ ap not w.if-is_none.true)) in
+          let none : fact_at cmp risen k ≡ None = none_from_absent _ (found_by c.get.result _ false c.get.ensures.fact
+          (c.is_none.ensures ∙ ap not w.if-is_none.true)) in
           record {
-            back = subst (λ new. TakesBack cmp facts risen (take (i + 1) ks) new) (sym w.facts-is) (back_removed cmp keys facts risen ks i k c.loop-k.facts c.loop-k-test.true c.k-item.is inv.back w.remove.new.self none w.remove.ensures.written);
+            back = subst (λ new. TakesBack cmp facts risen (take (i + 1) ks) new) (sym w.facts-is)
+                (back_removed cmp keys facts risen ks i k c.loop-k.facts c.loop-k-test.true c.k-item.is inv.back w.remove.new.self none
+                w.remove.ensures.written);
             rise = subst (λ new. KeysRise cmp new) (sym w.facts-is) w.remove.ensures.rise;
           }
       | else-is_none w ↦
           let some : IsSome (fact_at cmp risen k) = found_by c.get.result _ true c.get.ensures.fact (c.is_none.ensures ∙ ap not w.if-is_none.false) in
           record {
-            back = subst (λ new. TakesBack cmp facts risen (take (i + 1) ks) new) (sym w.facts-is) (back_kept cmp keys facts risen ks i k c.loop-k.facts c.loop-k-test.true c.k-item.is inv.back some);
+            back = subst (λ new. TakesBack cmp facts risen (take (i + 1) ks) new) (sym w.facts-is)
+                (back_kept cmp keys facts risen ks i k c.loop-k.facts c.loop-k-test.true c.k-item.is inv.back some);
             rise = subst (λ new. KeysRise cmp new) (sym w.facts-is) inv.rise;
           }
     ]
