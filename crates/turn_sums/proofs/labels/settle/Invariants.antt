@@ -7,5 +7,5 @@ use Rattle.turn_sums.proofs.labels.settle.Given as goal
 abbrev pub invariant-loop-round : goal.invariant-loop-round
 invariant-loop-round l = record {
   found : AreFound (is_edge l.graph) l.head (steps_of l.ups l.downs) l.labels;
-  covers : CoversWalks (is_edge l.graph) l.head (steps_of l.ups l.downs) l.labels l.round;
+  covers : CoversWalks (is_edge l.graph) l.head (steps_of l.ups l.downs) l.labels l._round;
 }
