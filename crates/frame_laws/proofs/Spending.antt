@@ -154,7 +154,6 @@ module _ (family : Family) (run : Run) (root : Standing) (last : ℕ) (sound : I
     here = tt;
     goes = λ place top rest l m e t.
         ((λ c most s b. let pays = (facts.goes place c top rest l m e s).1 in omega (arith, pays)), tt);
-    begins = λ place l m e. ((λ c most s b. cc), tt);
     calls = λ place top rest l m e t.
         ((λ d most s b. (call_enters family run root last facts top.standing place (λ c x. facts.calls place c top rest l m e x) d s).owed), tt, tt);
     returns = λ place popped caller rest l m e t.

@@ -19,7 +19,7 @@ tops_after : (family : Family) (run : Run) (move : Move) (place : ℕ) (stack : 
     → stack_after family run move place stack ≡ top ∷ rest → last_of top ≡ suc place
 tops_after family run Goes place [] top rest e = cc
 tops_after family run Goes place (t ∷ r) top rest e = subst (λ (a : Activation). last_of a ≡ suc place) (first_is e) (last_on t (suc place))
-tops_after family run Calls place [] top rest e = subst (λ (a : Activation). last_of a ≡ suc place) (first_is e) refl
+tops_after family run Calls place [] top rest e = cc
 tops_after family run Calls place (t ∷ r) top rest e = subst (λ (a : Activation). last_of a ≡ suc place) (first_is e) refl
 tops_after family run Returns place [] top rest e = cc
 tops_after family run Returns place (t ∷ []) top rest e = cc
@@ -84,7 +84,7 @@ module _ (claims : Claims) (family : Family) (run : Run) (root : Standing) (last
       let k = kept.goes place top rest l m e t in
       let here : last_of top ≡ place = tops_are_here family run root place top rest e in
       traced_on claims top rest (suc place) t (subst (λ (x : ℕ). claims.next top.standing x (suc place)) (sym here) k.0) k.1
-  traced_after place Calls [] l m e t = let k = kept.begins place l m e in record { start = k.0; steps = k.1 }
+  traced_after place Calls [] l m e t = tt
   traced_after place Calls (top ∷ rest) l m e t =
       let k = kept.calls place top rest l m e t in
       let here : last_of top ≡ place = tops_are_here family run root place top rest e in (

@@ -49,7 +49,6 @@ module _ (family : Family) (run : Run) (root : Standing) (last : ℕ) (facts : A
       (λ c s. (facts.goes place c top rest l m e s).0),
       (λ c s. facts.within (suc place) c (on_at top (suc place)) rest (omega arith) (stack_behind family run root place Goes (top ∷ rest) m e) s),
     );
-    begins = λ place l m e. ((λ c s. cc), (λ c s. cc));
     calls = λ place top rest l m e t. (
       (λ d s. call_enters top.standing place (λ c x. facts.calls place c top rest l m e x) d s),
       (λ d s. facts.within (suc place) d (begun_at (called_from family run top.standing place) (suc place)) (top ∷ rest) (omega arith)

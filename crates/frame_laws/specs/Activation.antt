@@ -39,11 +39,11 @@ called_from family run Free place = Free
 called_from family run (Stub time) place = Free
 called_from family run (In c) place = unwrap_or ((family c).leads (run.node c place)) Free
 
--- the stack behind a step from a place, its top first
+-- the stack behind a step from a place, its top first; once it is empty it stays so
 abbrev pub stack_after : Family → Run → Move → ℕ → List Activation → List Activation
 stack_after family run Goes place [] = []
 stack_after family run Goes place (top ∷ rest) = on_at top (suc place) ∷ rest
-stack_after family run Calls place [] = begun_at Free (suc place) ∷ []
+stack_after family run Calls place [] = []
 stack_after family run Calls place (top ∷ rest) = begun_at (called_from family run top.standing place) (suc place) ∷ top ∷ rest
 stack_after family run Returns place [] = []
 stack_after family run Returns place (popped ∷ []) = []

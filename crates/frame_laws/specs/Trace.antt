@@ -1,6 +1,6 @@
 -- What holds along the places of each activation of a stack, and between an activation and its caller.
 use Rattle.std.specs.Prelude.{◌≡◌, ℕ, suc, ◌<◌, List, [], ◌∷◌}
-use Rattle.frame_laws.specs.Context.{Family, Standing, Free}
+use Rattle.frame_laws.specs.Context.{Family, Standing}
 use Rattle.frame_laws.specs.Run.{Run, Goes, Calls, Returns}
 use Rattle.frame_laws.specs.Activation.{Activation, places_of, last_of, called_from, stack_at}
 
@@ -37,8 +37,6 @@ pub record AreKept (claims : Claims) (family : Family) (run : Run) (root : Stand
   pub here : claims.here root 0
   pub goes : (place : ℕ) (top : Activation) (rest : List Activation) → place < last → run.move place ≡ Goes → stack_at family run root place ≡ top ∷ rest
       → AreTraced claims (top ∷ rest) → claims.next top.standing place (suc place) × claims.here top.standing (suc place)
-  pub begins : (place : ℕ) → place < last → run.move place ≡ Calls → stack_at family run root place ≡ []
-      → claims.start Free (suc place) × claims.here Free (suc place)
   pub calls : (place : ℕ) (top : Activation) (rest : List Activation) → place < last → run.move place ≡ Calls → stack_at family run root place ≡ top ∷ rest
       → AreTraced claims (top ∷ rest) → let callee = called_from family run top.standing place in
       claims.start callee (suc place) × claims.here callee (suc place) × claims.link callee (suc place) top.standing place
