@@ -1,0 +1,27 @@
+-- Outcomes by where they stand in a report.
+use Rattle.std.specs.Prelude.{◌≡◌, ℕ, ◌<◌, List, All, length, map, slice_index_or}
+use Rattle.wcet_report.specs.Context.{context_text}
+use Rattle.wcet_report.specs.Order.{known_rank, AreOrdered}
+use Rattle.wcet_report.specs.declared.outcome.Outcome.{Outcome}
+use Rattle.wcet_report.specs.declared.sorting.Rank.{Rank}
+
+-- this is where an outcome stands that is at an index of its list
+pub record IsRankOf (outcome : Outcome) (place : ℕ) (rank : Rank) : Type 0 where
+  pub sub : rank.sub ≡ outcome.sub
+  pub known : rank.known ≡ known_rank outcome.context
+  pub text : rank.text.items ≡ context_text outcome.context
+  pub index : rank.index ≡ place
+
+-- the outcome that stands there
+abbrev pub picked : List Outcome → Outcome → Rank → Outcome
+picked list d rank = slice_index_or list rank.index d
+
+-- these are the ranks of the outcomes of a list, in its order
+pub record AreRanks (list : List Outcome) (ranks : List Rank) : Type 0 where
+  pub long : length ranks ≡ length list
+  pub each : (k : ℕ) (d : Outcome) (e : Rank) → k < length list → IsRankOf (slice_index_or list k d) k (slice_index_or ranks k e)
+
+-- the ranks put the outcomes of a list into the order of a report
+pub record OrdersBy (list : List Outcome) (ranks : List Rank) : Type 0 where
+  pub below : All (λ rank. rank.index < length list) ranks
+  pub ordered : (d : Outcome) → AreOrdered list (map (picked list d) ranks)
