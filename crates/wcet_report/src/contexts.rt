@@ -1,5 +1,5 @@
 ghost use Rattle.std.specs.Prelude.{◌≡◌, ◌++◌, ◌<◌, [], IfOk, length, slice_index_or};
-ghost use Rattle.wcet_report.specs.Context.{argument_names, known, known_or_any, are_any, context_text, is_open, HasArguments};
+ghost use Rattle.wcet_report.specs.Context.{argument_names, known, known_or_any, context_text, HasArguments, are_any as are_any_so, is_open as is_open_so};
 ghost use Rattle.wcet_report.specs.Line.{spaced};
 
 use crate::context::Context;
@@ -33,7 +33,7 @@ fn argument_name(k: usize) -> [u8; 3]
 
 /// Whether nothing is known of any argument.
 fn are_any(values: &[Value]) -> bool
-    ensures { result ≡ Rattle.wcet_report.specs.Context.are_any values.now }
+    ensures { result ≡ are_any_so values.now }
 {
     for value in values {
         if !is_any(value) {
@@ -89,7 +89,7 @@ pub(crate) fn put_context(alloc: Global, text: &mut Vec<u8>, context: &Context) 
 
 /// Whether a context is one in which nothing is known of the arguments.
 pub(crate) fn is_open(context: &Context) -> bool
-    ensures { result ≡ Rattle.wcet_report.specs.Context.is_open context.now }
+    ensures { result ≡ is_open_so context.now }
 {
     match context {
         Context::Plain => true,

@@ -1,5 +1,5 @@
 ghost use Rattle.std.specs.Prelude.{◌≡◌, ◌++◌, ◌<◌, IfOk};
-ghost use Rattle.wcet_report.specs.Node.{next_text, node_text, register, cell_text};
+ghost use Rattle.wcet_report.specs.Node.{next_text, node_text, register, cell_text, group_letter as group_letter_so};
 
 use abs_state::{Next, Place};
 use bt_base::{Want, hex8, put_decimal};
@@ -41,7 +41,7 @@ pub(crate) fn put_node(text: &mut Vec<u8>, place: &Place) -> Result<(), Want>
 
 /// The letter of a group of eight registers.
 fn group_letter(group: u8) -> u8
-    ensures { result ≡ Rattle.wcet_report.specs.Node.group_letter group }
+    ensures { result ≡ group_letter_so group }
 {
     match group {
         0 => b'g',

@@ -1,5 +1,6 @@
 ghost use Rattle.std.specs.Prelude.{◌≡◌, All, IfOk};
 ghost use Rattle.wcet_report.specs.Context.{HasArguments};
+ghost use Rattle.wcet_report.specs.Order.{known_rank as known_rank_so};
 ghost use Rattle.wcet_report.specs.Ranking.{IsRankOf, AreRanks, OrdersBy};
 
 use crate::context::Context;
@@ -23,7 +24,7 @@ pub(crate) struct Rank {
 
 /// The rank of a kind of context.
 fn known_rank(context: &Context) -> u8
-    ensures { result ≡ Rattle.wcet_report.specs.Order.known_rank context.now }
+    ensures { result ≡ known_rank_so context.now }
 {
     match context {
         Context::Plain => 0,

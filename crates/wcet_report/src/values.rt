@@ -1,6 +1,6 @@
 ghost use Rattle.std.specs.Prelude.{◌≡◌, ◌++◌, ◌^◌, ℕ, nat_le, nat_lt, IfOk};
 ghost use Rattle.std.specs.List.{filter};
-ghost use Rattle.wcet_report.specs.Value.{by_sign, parted, value_text, is_any};
+ghost use Rattle.wcet_report.specs.Value.{by_sign, parted, value_text, is_any as is_any_so};
 
 use bt_base::{Want, put_signed};
 use std::alloc::Global;
@@ -78,7 +78,7 @@ pub(crate) fn put_value(alloc: Global, text: &mut Vec<u8>, value: &Value) -> Res
 
 /// Whether a value is the range of all words.
 pub(crate) fn is_any(value: &Value) -> bool
-    ensures { result ≡ Rattle.wcet_report.specs.Value.is_any value.now }
+    ensures { result ≡ is_any_so value.now }
 {
     match value {
         Value::Range { lo, hi } => *lo == i32::MIN && *hi == i32::MAX,

@@ -1,8 +1,8 @@
-//! Each public call on its happy path and at its edges.
-
-use crate::{
+//! Files and sinks, numbers in bytes and in text, numbers in order, and graphs.
+use bt_base::{
     Failed, FileShelf, Graph, MemoryShelf, MemorySink, NoFetch, OutSink, ReadRefusal, Shelf, Sink,
-    Unwritten, Want, be16, be32, hex8, put_decimal, put_signed, read_all, write_all,
+    Unwritten, Want, be16, be32, has, hex8, hex8_text, put_decimal, put_in_order, put_signed,
+    read_all, write_all,
 };
 use std::alloc::{AllocError, Global};
 use std::test::Fail;
@@ -38,6 +38,7 @@ fn numbers_in_bytes_and_text(rt: HostRuntime) -> Result<(), Fail> {
         (u32::MAX, *b"ffffffff"),
     ] {
         assert_eq!(rt; hex8(v), want, "of {v}");
+        assert_eq!(rt; hex8_text(rt.alloc(), v)?.as_bytes(), want.as_slice(), "of {v}");
     }
     let mut out = Vec::new(rt.alloc());
     for v in [0, 9, 10, 4096, u64::MAX] {
@@ -57,6 +58,23 @@ fn numbers_in_bytes_and_text(rt: HostRuntime) -> Result<(), Fail> {
         out.as_slice(),
         b"0 -1 10 9223372036854775807 -9223372036854775808 ".as_slice()
     );
+    Ok(())
+}
+
+#[test]
+fn numbers_in_order(rt: HostRuntime) -> Result<(), Fail> {
+    for (numbers, order) in [
+        ([].as_slice(), [].as_slice()),
+        ([7, 3, 7, u32::MAX, 0].as_slice(), [0, 3, 7, u32::MAX].as_slice()),
+        ([2, 2, 2].as_slice(), [2].as_slice()),
+    ] {
+        let mut list = Vec::from_slice(rt.alloc(), numbers)?;
+        put_in_order(&mut list);
+        assert_eq!(rt; list.as_slice(), order, "{numbers:?}");
+        for number in [0, 1, 2, 3, 4, 7, u32::MAX] {
+            assert_eq!(rt; has(&list, number), order.contains(&number), "{number} in {order:?}");
+        }
+    }
     Ok(())
 }
 
