@@ -1,4 +1,5 @@
 pub mod Context
+pub mod Laws
 pub mod Line
 pub mod Node
 pub mod Order

@@ -16,10 +16,10 @@ pub record IsRankOf (outcome : Outcome) (place : ℕ) (rank : Rank) : Type 0 whe
 abbrev pub picked : List Outcome → Outcome → Rank → Outcome
 picked list d rank = slice_index_or list rank.index d
 
--- these are the ranks of the outcomes of a list, in its order
-pub record AreRanks (list : List Outcome) (ranks : List Rank) : Type 0 where
-  pub long : length ranks ≡ length list
-  pub each : (k : ℕ) (d : Outcome) (e : Rank) → k < length list → IsRankOf (slice_index_or list k d) k (slice_index_or ranks k e)
+-- these are the ranks of so many first outcomes of a list, in its order
+pub record AreRanks (list : List Outcome) (count : ℕ) (ranks : List Rank) : Type 0 where
+  pub long : length ranks ≡ count
+  pub each : (k : ℕ) (d : Outcome) (e : Rank) → k < count → IsRankOf (slice_index_or list k d) k (slice_index_or ranks k e)
 
 -- the ranks put the outcomes of a list into the order of a report
 pub record OrdersBy (list : List Outcome) (ranks : List Rank) : Type 0 where

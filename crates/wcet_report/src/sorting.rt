@@ -1,4 +1,4 @@
-ghost use Rattle.std.specs.Prelude.{◌≡◌, All, IfOk};
+ghost use Rattle.std.specs.Prelude.{◌≡◌, All, IfOk, length};
 ghost use Rattle.wcet_report.specs.Context.{HasArguments};
 ghost use Rattle.wcet_report.specs.Order.{known_rank as known_rank_so};
 ghost use Rattle.wcet_report.specs.Ranking.{IsRankOf, AreRanks, OrdersBy};
@@ -50,7 +50,7 @@ fn rank_of(alloc: Global, outcome: &Outcome, index: usize) -> Result<Rank, Want>
 /// Where each outcome stands.
 fn ranks_of(alloc: Global, list: &[Outcome]) -> Result<Vec<Rank>, Want>
     requires { All (λ outcome. HasArguments outcome.context) list.now }
-    ensures { IfOk result (λ ranks. AreRanks list.now ranks.items) }
+    ensures { IfOk result (λ ranks. AreRanks list.now (length list.now) ranks.items) }
 {
     let mut ranks = Vec::with_capacity(alloc, list.len())?;
     for index in 0..list.len() {

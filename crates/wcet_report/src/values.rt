@@ -34,11 +34,11 @@ fn push_others(list: &mut Vec<u32>, words: &[u32]) -> Result<(), Want>
 fn put_parted(text: &mut Vec<u8>, words: &[u32], before: u8) -> Result<(), Want>
     ensures { IfOk result (λ _. text.new.items ≡ text.old.items ++ parted before words.now) }
 {
-    let mut before = before;
+    let mut separator = before;
     for word in words {
-        text.push(before)?;
+        text.push(separator)?;
         put_signed(text, i64::from(word.cast_signed()))?;
-        before = b',';
+        separator = b',';
     }
     Ok(())
 }
