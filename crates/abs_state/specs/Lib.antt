@@ -1,0 +1,3 @@
+pub mod Flags
+pub mod Key
+pub mod State
