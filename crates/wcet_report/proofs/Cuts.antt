@@ -39,7 +39,7 @@ cut_once stops (x ∷ xs) [] rest more b c free also at_b at_c same =
 cut_once stops (x ∷ xs) (y ∷ ys) rest more b c free also at_b at_c same =
     let head : x ≡ y = ap first_byte same in
     let tail : (xs ≡ ys) × (b ∷ rest ≡ c ∷ more) =
-        cut_once stops xs ys rest more b c (rest_lacks stops x xs free) (rest_lacks stops y ys also) at_b at_c (ap bytes_behind same) in
+    cut_once stops xs ys rest more b c (rest_lacks stops x xs free) (rest_lacks stops y ys also) at_b at_c (ap bytes_behind same) in
     (cc (head, tail.0), tail.1)
 
 -- what is joined of two lacks what both lack
@@ -47,5 +47,7 @@ pub lacks-append : (stops : ℕ → Bool) (xs ys : List ℕ) → Lacks stops xs 
 lacks-append stops [] ys free also = also
 lacks-append stops (x ∷ xs) ys free also =
     let parts : (not (stops x) ≡ true) × (lacks stops xs ≡ true) = and_parts (not (stops x)) (lacks stops xs) free.is in
-    record { is = and_from (not (stops x)) (lacks stops (xs ++ ys)) parts.0
-        (lacks-append stops xs ys (record { is = parts.1 }) also).is }
+    record {
+      is = and_from (not (stops x)) (lacks stops (xs ++ ys)) parts.0
+          (lacks-append stops xs ys (record { is = parts.1 }) also).is;
+    }

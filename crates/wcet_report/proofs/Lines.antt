@@ -69,20 +69,20 @@ behind_tells f g [] [] t u f_free g_free r_clean s_clean same =
     (cut.0, refl, ap bytes_behind cut.1)
 behind_tells f g [] (w ∷ ws) t u f_free g_free r_clean s_clean same =
     let cut : (f ≡ g) × (10 ∷ t ≡ 32 ∷ (w ++ behind ws u)) =
-        cut_once ends_word f g t (w ++ behind ws u) 10 32 f_free g_free refl refl same in
+    cut_once ends_word f g t (w ++ behind ws u) 10 32 f_free g_free refl refl same in
     let wrong : 10 ≡ 32 = ap first_byte cut.1 in
     absurd (omega (arith, wrong))
 behind_tells f g (v ∷ vs) [] t u f_free g_free r_clean s_clean same =
     let cut : (f ≡ g) × (32 ∷ (v ++ behind vs t) ≡ 10 ∷ u) =
-        cut_once ends_word f g (v ++ behind vs t) u 32 10 f_free g_free refl refl same in
+    cut_once ends_word f g (v ++ behind vs t) u 32 10 f_free g_free refl refl same in
     let wrong : 32 ≡ 10 = ap first_byte cut.1 in
     absurd (omega (arith, wrong))
 behind_tells f g (v ∷ vs) (w ∷ ws) t u f_free g_free r_clean s_clean same =
     let cut : (f ≡ g) × (32 ∷ (v ++ behind vs t) ≡ 32 ∷ (w ++ behind ws u)) =
-        cut_once ends_word f g (v ++ behind vs t) (w ++ behind ws u) 32 32 f_free g_free refl refl same in
+    cut_once ends_word f g (v ++ behind vs t) (w ++ behind ws u) 32 32 f_free g_free refl refl same in
     let rest : (v ≡ w) × (vs ≡ ws) × (t ≡ u) =
-        behind_tells v w vs ws t u (word_clean v vs r_clean) (word_clean w ws s_clean) (words_clean v vs r_clean) (words_clean w ws s_clean)
-            (ap bytes_behind cut.1) in
+    behind_tells v w vs ws t u (word_clean v vs r_clean) (word_clean w ws s_clean) (words_clean v vs r_clean) (words_clean w ws s_clean)
+    (ap bytes_behind cut.1) in
     (cut.0, cc (rest.0, rest.1), rest.2)
 
 -- a line before a text tells its words and that text
@@ -90,8 +90,8 @@ pub line_tells : (one other : Words) (t u : List ℕ) → IsClean one → IsClea
     → (one ≡ other) × (t ≡ u)
 line_tells one other t u clean also same =
     let cut : (one.first ≡ other.first) × (one.rest ≡ other.rest) × (t ≡ u) =
-        behind_tells one.first other.first one.rest other.rest t u clean.first also.first clean.rest also.rest
-            (sym (line_is one.first one.rest t) ∙ same ∙ line_is other.first other.rest u) in
+    behind_tells one.first other.first one.rest other.rest t u clean.first also.first clean.rest also.rest
+    (sym (line_is one.first one.rest t) ∙ same ∙ line_is other.first other.rest u) in
     (λ i. record { first = cut.0 i; rest = cut.1 i }, cut.2)
 
 abbrev pub lines_text : List Words → List ℕ

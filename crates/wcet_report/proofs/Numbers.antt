@@ -1,8 +1,9 @@
 -- Texts of numbers, addresses and program points tell what they are of, and have no byte but their own.
-use Rattle.std.proofs.Common.{◌≡◌, ℕ, ◌+◌, ◌-◌, ◌/◌, ◌%◌, ◌^◌, ◌<◌, ℤ, pos, negsuc, Bool, true, false, List, [], ◌∷◌, ◌++◌, refl, ap, sym, subst, arith, rules, cc, get_or, codes, absurd, if◌then◌else◌}
+use Rattle.std.proofs.Common.{◌≡◌, ℕ, ◌+◌, ◌-◌, ◌/◌, ◌%◌, ◌^◌, ◌<◌, ℤ, pos, negsuc, Bool, true, false, List, [], ◌∷◌, ◌++◌, refl, ap, sym, subst, arith, rules, cc, get_or, suc, codes, absurd, if◌then◌else◌}
 use Rattle.std.proofs.lemmas.Bool.Decides.{nat_tests}
 use Rattle.std.proofs.lemmas.Fmt.{decimal_by_steps, decimal_injective, signed_decimal_injective}
 use Rattle.std.specs.Fmt.{signed_decimal}
+use Rattle.std.specs.Int.Signed.{mag}
 use Rattle.std.specs.Prelude.{◌==◌, ◌&&◌, not, decimal, nat_lt}
 use Rattle.bt_base.specs.Text.{hex_digit, hex8_of}
 use Rattle.wcet_report.proofs.Cuts.{lacks, Lacks, lacks-append, cut_once, first_byte, bytes_behind}
@@ -51,17 +52,17 @@ pub lacks_decimal : (stops : ℕ → Bool) → NoDigit stops → (n : ℕ) → n
 lacks_decimal stops no_digit n small = decimal_by_steps (λ _ ds. Lacks stops ds)
     (λ m less. lacks_one stops (48 + m) [] (no_digit.decimal m less) (record { is = refl }))
     (λ m ds many front. lacks-append stops ds ((48 + m % 10) ∷ []) front
-        (lacks_one stops (48 + m % 10) [] (no_digit.decimal (m % 10) (omega arith)) (record { is = refl })))
+    (lacks_one stops (48 + m % 10) [] (no_digit.decimal (m % 10) (omega arith)) (record { is = refl })))
     n small
 
-pub lacks_signed : (stops : ℕ → Bool) → NoDigit stops → (z : ℤ) → Rattle.std.proofs.Common.mag z < 2 ^ 63 → Lacks stops (signed_decimal z)
+pub lacks_signed : (stops : ℕ → Bool) → NoDigit stops → (z : ℤ) → mag z < 2 ^ 63 → Lacks stops (signed_decimal z)
 lacks_signed stops no_digit (pos n) small = lacks_decimal stops no_digit n (omega (arith, small))
 lacks_signed stops no_digit (negsuc n) small =
-    lacks_one stops 45 (decimal (Rattle.std.proofs.Common.suc n)) no_digit.sign (lacks_decimal stops no_digit (Rattle.std.proofs.Common.suc n) (omega (arith, small)))
+    lacks_one stops 45 (decimal (suc n)) no_digit.sign (lacks_decimal stops no_digit (suc n) (omega (arith, small)))
 
 pub lacks_hex8 : (stops : ℕ → Bool) → NoDigit stops → (v : ℕ) → Lacks stops (hex8_of v)
 lacks_hex8 stops no_digit v =
     let each : (n : ℕ) (rest : List ℕ) → Lacks stops rest → Lacks stops (hex_digit (n % 16) ∷ rest) =
-        λ n rest after. lacks_one stops (hex_digit (n % 16)) rest (no_digit.hexadecimal (n % 16) (omega arith)) after in
+    λ n rest after. lacks_one stops (hex_digit (n % 16)) rest (no_digit.hexadecimal (n % 16) (omega arith)) after in
     each (v / 2 ^ 28) _ (each (v / 2 ^ 24) _ (each (v / 2 ^ 20) _ (each (v / 2 ^ 16) _ (each (v / 2 ^ 12) _
-        (each (v / 2 ^ 8) _ (each (v / 2 ^ 4) _ (each v _ (record { is = refl }))))))))
+    (each (v / 2 ^ 8) _ (each (v / 2 ^ 4) _ (each v _ (record { is = refl }))))))))
