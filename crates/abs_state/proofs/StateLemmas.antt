@@ -4,19 +4,20 @@ use Rattle.std.specs.Prelude.{◌==◌, if◌then◌else◌}
 use Rattle.std.specs.List.{All, range_with_len}
 use Rattle.std.proofs.lemmas.List.Elements.{All-cons, All-map, All-nil}
 use Rattle.std.proofs.lemmas.List.FromFn.{length-map-range_with_len, get_or-map-range_with_len}
+use Rattle.value_lattice.specs.Least.{top}
 use Rattle.value_lattice.specs.Set.{IsSet}
 use Rattle.value_lattice.specs.Value.{IsValue}
 use Rattle.value_lattice.specs.declared.value.Value.{Value}
 use Rattle.value_lattice.specs.declared.value.Value.TheVariants.{Words, Ret}
 use Rattle.abs_state.specs.Flags.{names}
-use Rattle.abs_state.specs.State.{State, IsState, entry_state, entry_cells, entry_cell, top}
+use Rattle.abs_state.specs.State.{State, IsState, entry_state, entry_cells, entry_cell}
 use Rattle.abs_state.specs.declared.flags.Flags.TheVariants.{Unknown}
 
 -- the word 0 alone is a set
 zero_is_set : IsSet (0 ∷ [])
 zero_is_set = record { some = omega arith; few = omega arith; rising = λ k h. absurd (omega arith); fits = All-cons (λ w. w < 2 ^ 32) 0 [] (omega arith) (All-nil (λ w. w < 2 ^ 32)) }
 
-top_is_value : IsValue top
+pub top_is_value : IsValue top
 top_is_value = (search rules, search rules, omega arith)
 
 entry_value : (c : ℕ) → IsValue (entry_cell c)

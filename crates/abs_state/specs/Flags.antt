@@ -1,5 +1,5 @@
 -- What the condition codes are known to be, and which cells that speaks of.
-use Rattle.std.specs.Prelude.{◌==◌, ℕ, ◌^◌, ◌&&◌, ◌||◌, Bool, true, false, nat_lt}
+use Rattle.std.specs.Prelude.{◌==◌, ℕ, ◌&&◌, ◌||◌, Bool, true, false, if◌then◌else◌}
 use Rattle.abs_state.specs.declared.flags.Flags.{Flags}
 use Rattle.abs_state.specs.declared.flags.Flags.TheVariants.{Unknown, Cmp, Res}
 use Rattle.abs_state.specs.declared.flags.Right.{Right}
@@ -35,3 +35,11 @@ abbrev pub is_unknown : Flags → Bool
 is_unknown Unknown = true
 is_unknown (Cmp left right) = false
 is_unknown (Res cell) = false
+
+-- what is known where either is: nothing, unless both are the same
+abbrev pub joined_flags : Flags → Flags → Flags
+joined_flags f g = if flags_eq f g then f else Unknown
+
+-- whether the one says no less than the other
+abbrev pub flags_at_most : Flags → Flags → Bool
+flags_at_most f g = flags_eq f g || is_unknown g

@@ -14,5 +14,8 @@ pub use args::Args;
 pub use flags::{Flags, Right};
 pub use head_bound::HeadBound;
 pub use key::{GapKind, Key, Next, Place};
-pub use laws::keys_are_ordered;
+pub use laws::{
+    keys_are_ordered, states_are_joined, states_are_ordered, states_rise, writes_keep_order,
+    writes_stand,
+};
 pub use state::AbsState;

@@ -1,9 +1,12 @@
 use crate::Flags;
-use crate::cells::{CELLS, entry_cell, names};
+use crate::cells::{
+    CELLS, cells_at_most, entry_cell, flags_at_most, forget_cells, join_cells, join_flags, names,
+};
 use bt_base::Want;
+use call_effects::Mask;
 use std::alloc::Global;
 use std::marker::Model;
-use value_lattice::Value;
+use value_lattice::{Thresholds, Value};
 
 /// What is known at a program point: a value for each of the 48 cells, and what the condition codes are those of.
 ///
@@ -26,9 +29,9 @@ impl Model for AbsState {
 }
 
 impl AbsState {
-    ghost use Rattle.std.specs.Prelude.{◌≡◌, ◌<◌, true, IfOk};
-    ghost use Rattle.value_lattice.specs.Value.{IsValue};
-    ghost use Rattle.abs_state.specs.State.{IsState, cell_at, entry_state, with_cell, with_flags, may_speak};
+    ghost use Rattle.std.specs.Prelude.{◌≡◌, ◌<◌, true, IfOk, All};
+    ghost use Rattle.value_lattice.specs.Value.{IsValue, IsOver};
+    ghost use Rattle.abs_state.specs.State.{IsState, cell_at, entry_state, with_cell, with_flags, may_speak, joined, is_at_most, without};
 
     /// What is known at the entry of a subprogram: cell 0 is 0, and cell 15 has the return address.
     pub fn entry(alloc: Global) -> Result<AbsState, Want>
@@ -99,5 +102,36 @@ impl AbsState {
             cells,
             flags: self.flags,
         })
+    }
+
+    /// The least state over the thresholds that is at least both: each cell is joined, and the flags stay where they
+    /// are the same.
+    pub fn join(&self, alloc: Global, other: &AbsState, t: &Thresholds) -> Result<AbsState, Want>
+        requires left { All (IsOver t.now) self.now.cells }
+        requires right { All (IsOver t.now) other.now.cells }
+        ensures { IfOk result (λ s. s ≡ joined t.now self.now other.now) }
+    {
+        t.are_thresholds();
+        let cells = join_cells(alloc, self.cells.as_slice(), other.cells.as_slice(), t)?;
+        Ok(AbsState {
+            cells,
+            flags: join_flags(self.flags, other.flags),
+        })
+    }
+
+    /// Whether each cell is at most the other state's, and the flags are the other's or the other's are unknown.
+    pub fn at_most(&self, other: &AbsState) -> bool
+        ensures { result ≡ is_at_most self.now other.now }
+    {
+        cells_at_most(self.cells.as_slice(), other.cells.as_slice())
+            && flags_at_most(self.flags, other.flags)
+    }
+
+    /// Makes the cells of a set any word, and the flags unknown.
+    pub fn forget(&mut self, written: Mask)
+        ensures { self.new ≡ without self.old written }
+    {
+        forget_cells(&mut self.cells, written);
+        self.flags = Flags::Unknown;
     }
 }
