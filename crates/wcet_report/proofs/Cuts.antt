@@ -1,5 +1,5 @@
 -- A text is cut at its first byte of a kind in one way.
-use Rattle.std.proofs.Common.{◌≡◌, ℕ, Bool, true, false, List, [], ◌∷◌, ◌++◌, refl, ap, sym, subst, arith, cc, absurd}
+use Rattle.std.proofs.Common.{◌≡◌, ℕ, Bool, true, List, [], ◌∷◌, ◌++◌, refl, ap, sym, subst}
 use Rattle.std.specs.Prelude.{◌&&◌, not}
 use Rattle.std.proofs.lemmas.Bool.{and_parts, and_from, both_ways, not-true}
 
@@ -12,11 +12,11 @@ lacks stops (b ∷ bs) = not (stops b) && lacks stops bs
 pub record Lacks (stops : ℕ → Bool) (text : List ℕ) : Type 0 where
   pub is : lacks stops text ≡ true
 
-pub first_byte : List ℕ → ℕ
+unfoldable pub first_byte : List ℕ → ℕ
 first_byte [] = 0
 first_byte (b ∷ bs) = b
 
-pub bytes_behind : List ℕ → List ℕ
+unfoldable pub bytes_behind : List ℕ → List ℕ
 bytes_behind [] = []
 bytes_behind (b ∷ bs) = bs
 

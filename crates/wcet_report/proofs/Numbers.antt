@@ -1,12 +1,11 @@
 -- Texts of numbers, addresses and program points tell what they are of, and have no byte but their own.
-use Rattle.std.proofs.Common.{◌≡◌, ℕ, ◌+◌, ◌-◌, ◌/◌, ◌%◌, ◌^◌, ◌<◌, ℤ, pos, negsuc, Bool, true, false, List, [], ◌∷◌, ◌++◌, refl, ap, sym, subst, arith, rules, cc, get_or, suc, codes, absurd, if◌then◌else◌}
-use Rattle.std.proofs.lemmas.Bool.Decides.{nat_tests}
-use Rattle.std.proofs.lemmas.Fmt.{decimal_by_steps, decimal_injective, signed_decimal_injective}
+use Rattle.std.proofs.Common.{◌≡◌, ℕ, ◌+◌, ◌/◌, ◌%◌, ◌^◌, ◌<◌, ℤ, pos, negsuc, Bool, false, List, [], ◌∷◌, ◌++◌, refl, ap, arith, get_or, suc}
+use Rattle.std.proofs.lemmas.Fmt.{decimal_by_steps}
 use Rattle.std.specs.Fmt.{signed_decimal}
 use Rattle.std.specs.Int.Signed.{mag}
-use Rattle.std.specs.Prelude.{◌==◌, ◌&&◌, not, decimal, nat_lt}
+use Rattle.std.specs.Prelude.{decimal}
 use Rattle.bt_base.specs.Text.{hex_digit, hex8_of}
-use Rattle.wcet_report.proofs.Cuts.{lacks, Lacks, lacks-append, cut_once, first_byte, bytes_behind}
+use Rattle.wcet_report.proofs.Cuts.{Lacks, lacks-append}
 
 digit_tells : (c d : ℕ) → c < 16 → d < 16 → hex_digit c ≡ hex_digit d → c ≡ d
 digit_tells c d c_less d_less same = grind arith

@@ -1,5 +1,5 @@
 -- Texts of program points and cells tell what they are of, and have no byte but their own.
-use Rattle.std.proofs.Common.{◌≡◌, ℕ, ◌+◌, ◌-◌, ◌/◌, ◌%◌, ◌^◌, ◌<◌, ◌≤◌, Bool, true, false, List, [], ◌∷◌, ◌++◌, refl, ap, sym, ◌∙◌, subst, arith, rules, cc, get_or, codes, absurd, if◌then◌else◌}
+use Rattle.std.proofs.Common.{◌≡◌, ℕ, ◌+◌, ◌-◌, ◌/◌, ◌%◌, ◌^◌, ◌<◌, ◌≤◌, Bool, true, false, List, [], ◌∷◌, ◌++◌, refl, ap, sym, ◌∙◌, subst, arith, get_or, codes, if◌then◌else◌}
 use Rattle.std.proofs.lemmas.Bool.{eqb-true, ltb-true, ltb-false}
 use Rattle.std.proofs.lemmas.Bool.Decides.{nat_tests}
 use Rattle.std.proofs.lemmas.Fmt.{decimal_injective}
@@ -8,7 +8,7 @@ use Rattle.abs_state.specs.declared.key.Next.{Next}
 use Rattle.abs_state.specs.declared.key.Next.TheVariants.{At, Into, Back}
 use Rattle.abs_state.specs.declared.key.Place.{Place}
 use Rattle.bt_base.specs.Text.{hex_digit, hex8_of}
-use Rattle.wcet_report.proofs.Cuts.{lacks, Lacks, lacks-append, cut_once, bytes_behind}
+use Rattle.wcet_report.proofs.Cuts.{Lacks, lacks-append, cut_once, bytes_behind}
 use Rattle.wcet_report.proofs.Numbers.{NoDigit, hex8_tells, lacks_hex8, lacks_decimal}
 use Rattle.wcet_report.specs.Laws.{NextInRange, IsPointOf}
 use Rattle.wcet_report.specs.Node.{next_text, node_text, group_letter, register, cell_text}
@@ -89,7 +89,7 @@ lacks_next : (stops : ℕ → Bool) → NoDigit stops → Lacks stops (codes ">i
     → (pc : ℕ) (n : Next) → Lacks stops (next_text pc n)
 lacks_next stops digit into back angle pc (At n) =
     lacks_either stops (n == (pc + 4) % 2 ^ 32) [] (codes ">" ++ hex8_of n) (record { is = refl })
-        (lacks-append stops (codes ">") (hex8_of n) angle (lacks_hex8 stops digit n))
+    (lacks-append stops (codes ">") (hex8_of n) angle (lacks_hex8 stops digit n))
 lacks_next stops digit into back angle pc (Into t) =
     lacks-append stops (codes ">into:") (hex8_of t) into (lacks_hex8 stops digit t)
 lacks_next stops digit into back angle pc Back = back
@@ -99,10 +99,10 @@ pub lacks_node : (stops : ℕ → Bool) → NoPoint stops → (sub : ℕ) (place
 unfolding node_text
 lacks_node stops none sub place point =
     lacks-append stops (hex8_of place.pc) (next_text place.pc place.next ++ (codes "/" ++ decimal place.depth)) (lacks_hex8 stops none.digit place.pc)
-        (lacks-append stops (next_text place.pc place.next) (codes "/" ++ decimal place.depth)
-            (lacks_next stops none.digit none.into none.back none.angle place.pc place.next)
-            (lacks-append stops (codes "/") (decimal place.depth) none.slash
-                (lacks_decimal stops none.digit place.depth (omega (arith, point.depth)))))
+    (lacks-append stops (next_text place.pc place.next) (codes "/" ++ decimal place.depth)
+    (lacks_next stops none.digit none.into none.back none.angle place.pc place.next)
+    (lacks-append stops (codes "/") (decimal place.depth) none.slash
+    (lacks_decimal stops none.digit place.depth (omega (arith, point.depth)))))
 
 abbrev is_slash : ℕ → Bool
 is_slash b = b == 47
@@ -119,16 +119,16 @@ pub node_tells : (sub : ℕ) (a b : Place) → IsPointOf sub a → IsPointOf sub
 unfolding node_text
 node_tells sub a b at_a at_b same =
     let pcs : (a.pc ≡ b.pc) × (next_text a.pc a.next ++ (47 ∷ decimal a.depth) ≡ next_text b.pc b.next ++ (47 ∷ decimal b.depth)) =
-        hex8_tells a.pc b.pc _ _ at_a.address at_b.address same in
+    hex8_tells a.pc b.pc _ _ at_a.address at_b.address same in
     let cut : (next_text a.pc a.next ≡ next_text b.pc b.next) × (47 ∷ decimal a.depth ≡ 47 ∷ decimal b.depth) =
-        cut_once is_slash _ _ (decimal a.depth) (decimal b.depth) 47 47
-            (lacks_next is_slash slash_free (record { is = refl }) (record { is = refl }) (record { is = refl }) a.pc a.next)
-            (lacks_next is_slash slash_free (record { is = refl }) (record { is = refl }) (record { is = refl }) b.pc b.next)
-            refl refl pcs.1 in
+    cut_once is_slash _ _ (decimal a.depth) (decimal b.depth) 47 47
+    (lacks_next is_slash slash_free (record { is = refl }) (record { is = refl }) (record { is = refl }) a.pc a.next)
+    (lacks_next is_slash slash_free (record { is = refl }) (record { is = refl }) (record { is = refl }) b.pc b.next)
+    refl refl pcs.1 in
     let depths : a.depth ≡ b.depth =
-        decimal_injective a.depth b.depth (omega (arith, at_a.depth)) (omega (arith, at_b.depth)) (cc (ap bytes_behind cut.1)) in
+    decimal_injective a.depth b.depth (omega (arith, at_a.depth)) (omega (arith, at_b.depth)) (cc (ap bytes_behind cut.1)) in
     let nexts : a.next ≡ b.next =
-        next_tells b.pc a.next b.next at_a.next at_b.next (subst (λ pc. next_text pc a.next ≡ next_text b.pc b.next) pcs.0 cut.0) in
+    next_tells b.pc a.next b.next at_a.next at_b.next (subst (λ pc. next_text pc a.next ≡ next_text b.pc b.next) pcs.0 cut.0) in
     let subs : a.sub ≡ b.sub = at_a.of ∙ sym at_b.of in
     λ i. record { sub = subs i; pc = pcs.0 i; next = nexts i; depth = depths i }
 
@@ -154,18 +154,18 @@ windows_tell : (a b : Bool) (c d : ℕ) → (a ≡ true → c < 32) → (a ≡ f
 unfolding window_text
 windows_tell true true c d c_low c_high d_low d_high c_less d_less same =
     register_tells c d (c_low refl) (d_low refl)
-        (ap (λ (text : List ℕ). get_or text 1 0) same) (ap (λ (text : List ℕ). get_or text 2 0) same)
+    (ap (λ (text : List ℕ). get_or text 1 0) same) (ap (λ (text : List ℕ). get_or text 2 0) same)
 windows_tell true false c d c_low c_high d_low d_high c_less d_less same =
     let wrong : 0 ≡ 46 = ap (λ (text : List ℕ). get_or text 3 0) same in absurd (omega (arith, wrong))
 windows_tell false true c d c_low c_high d_low d_high c_less d_less same =
     let wrong : 46 ≡ 0 = ap (λ (text : List ℕ). get_or text 3 0) same in absurd (omega (arith, wrong))
 windows_tell false false c d c_low c_high d_low d_high c_less d_less same =
     let regs : c - 24 ≡ d - 24 = register_tells (c - 24) (d - 24) (omega (arith, c_less)) (omega (arith, d_less))
-        (ap (λ (text : List ℕ). get_or text 1 0) same) (ap (λ (text : List ℕ). get_or text 2 0) same) in
+    (ap (λ (text : List ℕ). get_or text 1 0) same) (ap (λ (text : List ℕ). get_or text 2 0) same) in
     omega (arith, regs, c_high refl, d_high refl)
 
 -- the text of a cell tells it
 pub cell_tells : (c d : ℕ) → c < 48 → d < 48 → cell_text c ≡ cell_text d → c ≡ d
 cell_tells c d c_less d_less same =
     windows_tell (nat_lt c 32) (nat_lt d 32) c d (ltb-true c 32) (ltb-false c 32) (ltb-true d 32) (ltb-false d 32) c_less d_less
-        (sym (window_is (nat_lt c 32) c) ∙ same ∙ window_is (nat_lt d 32) d)
+    (sym (window_is (nat_lt c 32) c) ∙ same ∙ window_is (nat_lt d 32) d)

@@ -12,10 +12,13 @@ argument_names =
     codes "%o0" ∷ codes "%o1" ∷ codes "%o2" ∷ codes "%o3" ∷ codes "%o4" ∷ codes "%o5"
     ∷ codes "%g1" ∷ codes "%g2" ∷ codes "%g3" ∷ codes "%g4" ∷ codes "%g5" ∷ codes "%g6" ∷ codes "%g7" ∷ []
 
--- each argument of which something is known: its register and its value
+-- an argument, where something is known of it: its register and its value
+abbrev pub argument_words : List ℕ → Value → List (List ℕ)
+argument_words name value = if is_any value then [] else (name ++ (codes "=" ++ value_text value)) ∷ []
+
+-- each argument of which something is known
 abbrev pub known : List (List ℕ) → List Value → List (List ℕ)
-known (name ∷ names) (value ∷ values) =
-    if is_any value then known names values else (name ++ (codes "=" ++ value_text value)) ∷ known names values
+known (name ∷ names) (value ∷ values) = argument_words name value ++ known names values
 known _ _ = []
 
 -- whether nothing is known of any argument

@@ -1,5 +1,5 @@
 -- Facts about reports.
-use Rattle.std.specs.Prelude.{◌≡◌, ℕ, ◌^◌, ◌<◌, List, ◌++◌, All, Contains, FitsSigned, Option, Some, None, IfSome}
+use Rattle.std.specs.Prelude.{◌≡◌, ℕ, ◌^◌, ◌<◌, List, ◌++◌, All, Contains, FitsSigned, IfSome}
 use Rattle.std.specs.Int.{w32, w64}
 use Rattle.std.specs.List.{AllZip}
 use Rattle.abs_state.specs.declared.key.Next.{Next}
@@ -7,7 +7,7 @@ use Rattle.abs_state.specs.declared.key.Next.TheVariants.{At, Into, Back}
 use Rattle.abs_state.specs.declared.key.Place.{Place}
 use Rattle.value_lattice.specs.Value.{IsValue}
 use Rattle.wcet_report.specs.Order.{AreOrdered, AreByHead}
-use Rattle.wcet_report.specs.Outcome.{HasCell, context_line, loop_line, reason_line}
+use Rattle.wcet_report.specs.Outcome.{context_line, loop_line, reason_line}
 use Rattle.wcet_report.specs.Report.{AreReportable, IsReport}
 use Rattle.wcet_report.specs.declared.context.Context.{Context}
 use Rattle.wcet_report.specs.declared.context.Context.TheVariants.{Plain, With}

@@ -1,7 +1,6 @@
 -- The lines of an outcome: its context with its bound, its loops, and its reasons.
 use Rattle.std.specs.Prelude.{ℕ, ◌<◌, List, [], ◌∷◌, ◌++◌, Option, Some, None, codes, decimal}
 use Rattle.std.specs.Fmt.{signed_decimal}
-use Rattle.abs_state.specs.declared.head_bound.HeadBound.{HeadBound}
 use Rattle.bt_base.specs.Text.{hex8_of}
 use Rattle.wcet_report.specs.Context.{context_word, context_rest}
 use Rattle.wcet_report.specs.Line.{line_of, function_words}

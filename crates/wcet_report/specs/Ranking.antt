@@ -1,9 +1,16 @@
 -- Outcomes by where they stand in a report.
-use Rattle.std.specs.Prelude.{◌≡◌, ℕ, ◌<◌, List, All, length, map, slice_index_or}
+use Rattle.std.specs.Prelude.{◌≡◌, ℕ, ◌<◌, List, [], All, None, length, map, slice_index_or}
+use Rattle.wcet_report.specs.declared.context.Context.TheVariants.{Plain}
 use Rattle.wcet_report.specs.Context.{context_text}
 use Rattle.wcet_report.specs.Order.{known_rank, AreOrdered}
+use Rattle.std.specs.declared.cmp.Ordering.{Ordering}
+use Rattle.wcet_report.specs.contracts.sorting.RankOrd.TheImpl as rank_ord
 use Rattle.wcet_report.specs.declared.outcome.Outcome.{Outcome}
 use Rattle.wcet_report.specs.declared.sorting.Rank.{Rank}
+
+-- ranks by the entry, the kind of context, its text, and last the place in the list
+abbrev pub rank_cmp : Rank → Rank → Ordering
+rank_cmp = (rank_ord.ghosts).cmp
 
 -- this is where an outcome stands that is at an index of its list
 pub record IsRankOf (outcome : Outcome) (place : ℕ) (rank : Rank) : Type 0 where
@@ -25,3 +32,7 @@ pub record AreRanks (list : List Outcome) (count : ℕ) (ranks : List Rank) : Ty
 pub record OrdersBy (list : List Outcome) (ranks : List Rank) : Type 0 where
   pub below : All (λ rank. rank.index < length list) ranks
   pub ordered : (d : Outcome) → AreOrdered list (map (picked list d) ranks)
+
+-- an outcome of nothing, for what is asked past the end of a list
+abbrev pub no_outcome : Outcome
+no_outcome = record { sub = 0; context = Plain; loops = []; reasons = []; bound = None }

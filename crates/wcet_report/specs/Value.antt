@@ -1,5 +1,5 @@
 -- How values are written.
-use Rattle.std.specs.Prelude.{ℕ, ◌^◌, ◌&&◌, pos, negsuc, Bool, true, false, List, [], ◌∷◌, ◌++◌, codes, nat_le, nat_lt}
+use Rattle.std.specs.Prelude.{ℕ, ◌^◌, ◌&&◌, pos, negsuc, Bool, false, List, [], ◌∷◌, ◌++◌, codes, nat_le, nat_lt}
 use Rattle.std.specs.Fmt.{signed_decimal}
 use Rattle.std.specs.Int.{w32, cast_signed}
 use Rattle.std.specs.Ordering.{int_eq}

@@ -1,5 +1,5 @@
 ghost use Rattle.std.specs.Prelude.{◌≡◌, ◌++◌, ◌<◌, [], IfOk, length, slice_index_or};
-ghost use Rattle.wcet_report.specs.Context.{argument_names, known, known_or_any, context_text, HasArguments, are_any as are_any_so, is_open as is_open_so};
+ghost use Rattle.wcet_report.specs.Context.{argument_names, argument_words, known, known_or_any, context_text, HasArguments, are_any as are_any_so, is_open as is_open_so};
 ghost use Rattle.wcet_report.specs.Line.{spaced};
 
 use crate::context::Context;
@@ -43,17 +43,28 @@ fn are_any(values: &[Value]) -> bool
     true
 }
 
+/// Appends an argument behind a space, where something is known of it.
+fn put_argument(alloc: Global, text: &mut Vec<u8>, k: usize, value: &Value) -> Result<(), Want>
+    requires { k < 13 }
+    ensures { IfOk result (λ _. text.new.items
+        ≡ text.old.items ++ spaced (argument_words (slice_index_or argument_names k []) value.now)) }
+{
+    if is_any(value) {
+        return Ok(());
+    }
+    put_word(text, &argument_name(k))?;
+    text.push(b'=')?;
+    put_value(alloc, text, value)?;
+    Ok(())
+}
+
 /// Appends each argument of which something is known, behind a space.
 fn put_known(alloc: Global, text: &mut Vec<u8>, values: &[Value]) -> Result<(), Want>
     requires { length values.now ≡ 13 }
     ensures { IfOk result (λ _. text.new.items ≡ text.old.items ++ spaced (known argument_names values.now)) }
 {
     for k in 0..values.len() {
-        if !is_any(&values[k]) {
-            put_word(text, &argument_name(k))?;
-            text.push(b'=')?;
-            put_value(alloc, text, &values[k])?;
-        }
+        put_argument(alloc, text, k, &values[k])?;
     }
     Ok(())
 }
@@ -82,7 +93,8 @@ pub(crate) fn put_context(alloc: Global, text: &mut Vec<u8>, context: &Context) 
         }
         Context::With(args) => {
             text.extend_from_slice(b"args")?;
-            put_arguments(alloc, text, &args.list)
+            put_arguments(alloc, text, &args.list)?;
+            Ok(())
         }
     }
 }

@@ -57,6 +57,15 @@ fn put_counter(text: &mut Vec<u8>, bound: &HeadBound) -> Result<(), Want>
     put_range(text, bound)
 }
 
+/// Appends the words of an asserted number of passes.
+fn put_asserted(text: &mut Vec<u8>, count: u64) -> Result<(), Want>
+    ensures { IfOk result (λ _. text.new.items ≡ text.old.items ++ spaced (by_words (By.Asserted count))) }
+{
+    put_passes(text, count)?;
+    put_word(text, b"assertion")?;
+    Ok(())
+}
+
 /// Appends the words of what bounds a loop.
 fn put_by(text: &mut Vec<u8>, by: &By) -> Result<(), Want>
     requires { HasCell by.now }
@@ -64,10 +73,7 @@ fn put_by(text: &mut Vec<u8>, by: &By) -> Result<(), Want>
 {
     match by {
         By::Counter(bound) => put_counter(text, bound),
-        By::Asserted(count) => {
-            put_passes(text, *count)?;
-            put_word(text, b"assertion")
-        }
+        By::Asserted(count) => put_asserted(text, *count),
         By::Nothing => put_word(text, b"unbounded"),
     }
 }

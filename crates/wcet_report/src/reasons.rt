@@ -41,7 +41,8 @@ fn put_two_entries(text: &mut Vec<u8>, x: &Place, y: &Place) -> Result<(), Want>
     ensures { IfOk result (λ _. text.new.items ≡ text.old.items ++ spaced (codes "irreducible" ∷ node_text x.now ∷ node_text y.now ∷ [])) }
 {
     put_at_point(text, b"irreducible", x)?;
-    put_point(text, y)
+    put_point(text, y)?;
+    Ok(())
 }
 
 /// Appends the words of a call whose callee has no bound.
