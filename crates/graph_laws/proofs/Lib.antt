@@ -2,9 +2,11 @@ pub mod Attained
 pub mod Counters
 pub mod Costs
 pub mod Expanded
+pub mod Forward
 pub mod Inner
 pub mod Nests
 pub mod Rows
+pub mod Scopes
 pub mod Stretches
 pub mod Sums
 pub mod Turns

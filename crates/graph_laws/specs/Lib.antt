@@ -1,8 +1,10 @@
 pub mod Collapsed
 pub mod Counter
+pub mod Forward
 pub mod Labels
 pub mod Loops
 pub mod Nest
+pub mod Scope
 pub mod Walk
 pub mod Worked
 pub mod WorkedNests

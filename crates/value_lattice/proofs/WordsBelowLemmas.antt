@@ -1,8 +1,8 @@
 -- The words below a number that a test passes.
-use Rattle.std.proofs.Common.{◌≡◌, ℕ, ◌+◌, ◌<◌, Bool, true, eqb, List, length, sym, ap, ◌∙◌, arith, All, Contains, filter}
-use Rattle.std.proofs.lemmas.Bool.{and_from, eqb-true}
+use Rattle.std.proofs.Common.{◌≡◌, ℕ, ◌+◌, ◌^◌, ◌<◌, Bool, true, eqb, List, length, get_or, sym, ap, ◌∙◌, arith, All, Contains, filter}
+use Rattle.std.proofs.lemmas.Bool.{and_from, eqb-true, lt-ltb, ltb-true}
 use Rattle.std.proofs.lemmas.Bool.Decides.{Decides-eqb}
-use Rattle.std.proofs.lemmas.List.Elements.{All-contains, All-filter, All-from_get_or, filter_passes}
+use Rattle.std.proofs.lemmas.List.Elements.{Contains-get_or, All-contains, All-filter, All-from_get_or, filter_passes}
 use Rattle.std.proofs.lemmas.List.FromFn.{length-range_with_len, get_or-range_with_len}
 use Rattle.std.proofs.lemmas.List.Kept.{IsStrictlyIncreasing-filter}
 use Rattle.std.proofs.lemmas.Map.Made.{is_member-filter, is_member-Decides}
@@ -10,7 +10,7 @@ use Rattle.std.specs.Cmp.{nat_eq_equiv}
 use Rattle.std.specs.List.{range_with_len}
 use Rattle.std.specs.List.Sorted.{IsStrictlyIncreasing}
 use Rattle.std.specs.Set.{is_member}
-use Rattle.value_lattice.specs.Passing.{words_below}
+use Rattle.value_lattice.specs.Passing.{words_below, passes_some}
 
 numbers_fit : (n : ℕ) → All (λ v. v < n) (range_with_len 0 n)
 numbers_fit n =
@@ -47,3 +47,26 @@ words_pass n test w has = All-contains (λ v. test v ≡ true) (filter test (ran
 pub passing_is_there : (n : ℕ) (test : ℕ → Bool) (w : ℕ) → w < n → test w ≡ true → Contains (words_below n test) w
 unfolding words_below
 passing_is_there n test w inside passes = is_kept test (range_with_len 0 n) w (is_number n w inside) passes
+
+-- a word that a test passes
+pub record IsPassed (test : ℕ → Bool) : Type 0 where
+  pub word : ℕ
+  pub fits : word < 2 ^ 32
+  pub passes : test word ≡ true
+
+pub passed : (test : ℕ → Bool) → passes_some test ≡ true → IsPassed test
+unfolding passes_some
+passed test some =
+    let longer : 0 < length (words_below (2 ^ 32) test) = ltb-true 0 (length (words_below (2 ^ 32) test)) some in
+    let first : Contains (words_below (2 ^ 32) test) (get_or (words_below (2 ^ 32) test) 0 0) = Contains-get_or (words_below (2 ^ 32) test) 0 0 longer in
+    record {
+      word = get_or (words_below (2 ^ 32) test) 0 0;
+      fits = All-contains (λ w. w < 2 ^ 32) (words_below (2 ^ 32) test) (get_or (words_below (2 ^ 32) test) 0 0) (words_fit (2 ^ 32) test) first;
+      passes = words_pass (2 ^ 32) test (get_or (words_below (2 ^ 32) test) 0 0) first;
+    }
+
+pub passes_from : (test : ℕ → Bool) (w : ℕ) → w < 2 ^ 32 → test w ≡ true → passes_some test ≡ true
+unfolding passes_some
+passes_from test w word passes =
+    let there : Contains (words_below (2 ^ 32) test) w = passing_is_there (2 ^ 32) test w word passes in
+    lt-ltb 0 (length (words_below (2 ^ 32) test)) (omega (arith, there.1))

@@ -44,6 +44,11 @@ is_inside Ret (Words ys) = false
 is_inside Ret (Range lo hi) = nat_le (rank_of lo) 0 && nat_le 4294967295 (rank_of hi)
 is_inside Ret Ret = true
 
+-- there is no value, or one over the thresholds
+abbrev pub is_over_or_none : List ℕ → Option Value → Bool
+is_over_or_none t None = true
+is_over_or_none t (Some v) = is_over t v
+
 -- both are values, and each word of the one is a word of the other
 unfoldable pub is_at_most : Value → Value → Bool
 is_at_most a b = is_value a && (is_value b && is_inside a b)

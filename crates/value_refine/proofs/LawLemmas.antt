@@ -1,4 +1,5 @@
 -- Refinement covers, is monotone, and is one.
+use Rattle.value_lattice.proofs.MayLemmas.{some_word_of, may_from_has, may_have_more, least_or_none_of_same, only_word, least_is_one, less_from_least, covered_some, zero_is, zero_below, has_any, all_is_left}
 use Rattle.std.proofs.Common.{◌≡◌, ℕ, zero, suc, ◌%◌, ◌^◌, ◌<◌, ◌⊎◌, ◌↔◌, Bool, true, false, not, List, [], ◌∷◌, get_or, Option, Some, None, refl, sym, ap, subst, ◌∙◌, inl, inr, arith, All, Contains}
 use Rattle.std.specs.Prelude.{◌==◌}
 use Rattle.std.specs.List.Sorted.{IsStrictlyIncreasing}
@@ -6,14 +7,12 @@ use Rattle.std.proofs.lemmas.Bool.{both_ways, cases_Bool, false≢true, true≢f
 use Rattle.std.proofs.lemmas.List.Elements.{All-contains, Contains-get_or}
 use Rattle.value_lattice.specs.Laws.{AreMore}
 use Rattle.value_lattice.specs.Set.{IsSet}
-use Rattle.value_lattice.specs.Value.{Has, AtMost, IsValue, IsOver, IsLeast, IsBetween}
+use Rattle.value_lattice.specs.Value.{Has, AtMost, IsValue, IsOver, IsLeast, IsBetween, HasSome, IsLess, MayHave, IsLeastOrNone, is_zero}
 use Rattle.value_lattice.specs.declared.value.Value.{Value}
 use Rattle.value_lattice.specs.declared.value.Value.TheVariants.{Words, Range, Ret}
 use Rattle.value_lattice.proofs.JoinLemmas.{no_ret_in_set}
 use Rattle.value_lattice.proofs.ValueLemmas.{no_range_in_set, over_more, least_is_monotone, same_value}
-use Rattle.value_refine.specs.Laws.{HasSome, IsLess}
-use Rattle.value_refine.specs.Refinement.{MayHave, IsPossible, IsWithin, IsLeastOrNone, IsRefined, is_zero, is_left_alone}
-use Rattle.value_refine.proofs.RefineLemmas.{some_word_of, may_have, may_have_more, least_or_none_of_same}
+use Rattle.value_refine.specs.Refinement.{IsPossible, IsWithin, IsRefined, is_left_alone}
 use Rattle.word_ops.specs.Condition.{holds_of}
 use Rattle.word_ops.specs.Flags.{difference_flags_of}
 
@@ -21,7 +20,7 @@ pub refined_covers : (t : List ℕ) (condition : ℕ) (truth : Bool) (a b : Valu
 refined_covers t condition truth a b r x y ra refined xw yw address has_x has_y holds =
     elim (cases_Bool (is_left_alone condition b)) [
       | inl alone ↦ subst (λ (s : Option Value). HasSome s x ra) (sym (refined.alone alone)) has_x
-      | inr rest ↦ covered_some t (IsPossible condition truth a b) r x ra (refined.rest rest) xw address (record { has = may_have a x ra address has_x; other = y; fits = yw; there = may_have b y ra address has_y; is = holds })
+      | inr rest ↦ covered_some t (IsPossible condition truth a b) r x ra (refined.rest rest) xw address (record { has = may_from_has a x ra address has_x; other = y; fits = yw; there = may_from_has b y ra address has_y; is = holds })
     ]
 
 pub refined_is_one : (t : List ℕ) (condition : ℕ) (truth : Bool) (a b : Value) (r s : Option Value) → IsRefined t condition truth a b r → IsRefined t condition truth a b s → r ≡ s
@@ -73,7 +72,7 @@ all_possible : (t : List ℕ) (condition : ℕ) (truth : Bool) (a b : Value) (r 
 all_possible t condition truth a b r oa ob no_ret rest always refined =
     let one = some_word_of b ob.value in
     least_is_one t (MayHave a) r (Some a)
-    (least_or_none_of_same t (IsPossible condition truth a b) (MayHave a) r (λ w word is. is.has) (λ w word may. record { has = may; other = one.word; fits = one.fits; there = may_have b one.word one.word one.fits one.has; is = always w one.word }) (refined.rest rest))
+    (least_or_none_of_same t (IsPossible condition truth a b) (MayHave a) r (λ w word is. is.has) (λ w word may. record { has = may; other = one.word; fits = one.fits; there = may_from_has b one.word one.word one.fits one.has; is = always w one.word }) (refined.rest rest))
     (all_is_left t a oa no_ret)
 
 none_possible : (t : List ℕ) (condition : ℕ) (truth : Bool) (a b : Value) (r : Option Value) → is_left_alone condition b ≡ false → ((x y : ℕ) → holds_of condition (difference_flags_of x y false) ≡ truth → ⊥) → IsRefined t condition truth a b r → r ≡ None
@@ -99,7 +98,7 @@ sign_is_of_zero condition right y rest may six =
     ]
 
 pub within_covers : (t : List ℕ) (low high : ℕ) (a : Value) (r : Option Value) (x ra : ℕ) → IsLeastOrNone t (IsWithin a low high) r → x < 2 ^ 32 → ra < 2 ^ 32 → Has a x ra → IsBetween low high x → HasSome r x ra
-within_covers t low high a r x ra least word address has between = covered_some t (IsWithin a low high) r x ra least word address (record { has = may_have a x ra address has; between = between })
+within_covers t low high a r x ra least word address has between = covered_some t (IsWithin a low high) r x ra least word address (record { has = may_from_has a x ra address has; between = between })
 
 -- conditions that are the same for the words of the two sides leave the same
 same_refined : (t : List ℕ) (condition other : ℕ) (truth : Bool) (a b : Value) (r : Option Value) → is_left_alone condition b ≡ false → is_left_alone other b ≡ false → ((x y : ℕ) → x < 2 ^ 32 → MayHave b y → holds_of condition (difference_flags_of x y false) ≡ holds_of other (difference_flags_of x y false)) → IsRefined t condition truth a b r → IsRefined t other truth a b r

@@ -1,0 +1,5 @@
+pub mod Entries
+pub mod Finding
+pub mod Graph
+pub mod Marks
+pub mod Searching
