@@ -1,0 +1,10 @@
+pub mod Context
+pub mod Laws
+pub mod Line
+pub mod Node
+pub mod Order
+pub mod Outcome
+pub mod Progress
+pub mod Ranking
+pub mod Report
+pub mod Value
