@@ -135,7 +135,7 @@ others_stay n k (m ∷ left) h = elim (tells (n == m)) [
 ]
   where
     same : (x y : ℕ) → (x == y) ≡ true → x ≡ y
-    same x y t = elim (eqb_tells x y) [ | inl a ↦ a.1 | inr a ↦ let f : (x == y) ≡ false = a.0 in cc ]
+    same x y t = elim (eqb_tells x y) [ inl a ↦ a.1 | inr a ↦ let f : (x == y) ≡ false = a.0 in cc ]
 
 or_right : (a b : Bool) → b ≡ true → (a || b) ≡ true
 or_right true b h = refl
@@ -182,10 +182,10 @@ module _ (edge : ℕ → ℕ → Bool) (entry : ℕ) (nest : Nest) (is : IsNest 
 pub sets_end : SetsHaveEnds
 sets_end edge entry nest is nodes next n = elim (tells (has nodes n)) [
   | inl t ↦ absurd (no_end edge entry nest is nodes next (length nodes) nodes (n ∷ []) n (omega arith) (λ k i. inr i)
-  (λ k i. elim (eqb_tells k n) [
-    | inl a ↦ subst (λ (x : ℕ). LeadsOn edge (loops_of nest) x n) (sym a.1) (nowhere edge (loops_of nest) n)
-    | inr a ↦ let f : (k == n) ≡ true = or_false (k == n) i in let g : (k == n) ≡ false = a.0 in cc
-  ]) t)
+      (λ k i. elim (eqb_tells k n) [
+        | inl a ↦ subst (λ (x : ℕ). LeadsOn edge (loops_of nest) x n) (sym a.1) (nowhere edge (loops_of nest) n)
+        | inr a ↦ let f : (k == n) ≡ true = or_false (k == n) i in let g : (k == n) ≡ false = a.0 in cc
+      ]) t)
   | inr t ↦ t
 ]
   where

@@ -8,7 +8,7 @@ use Rattle.std.proofs.lemmas.Grind.{get_or_default_zero}
 use Rattle.bt_base.specs.Graph.{has}
 
 pub same_number : (x y : ℕ) → (x == y) ≡ true → x ≡ y
-same_number x y t = elim (eqb_tells x y) [ | inl a ↦ a.1 | inr a ↦ let f : (x == y) ≡ false = a.0 in cc ]
+same_number x y t = elim (eqb_tells x y) [ inl a ↦ a.1 | inr a ↦ let f : (x == y) ≡ false = a.0 in cc ]
 
 pub or_none : (a : Bool) → (a || false) ≡ a
 or_none true = refl
