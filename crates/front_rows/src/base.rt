@@ -38,7 +38,11 @@ fn numbers_in_bytes_and_text(rt: HostRuntime) -> Result<(), Fail> {
         (u32::MAX, *b"ffffffff"),
     ] {
         assert_eq!(rt; hex8(v), want, "of {v}");
-        assert_eq!(rt; hex8_text(rt.alloc(), v)?.as_bytes(), want.as_slice(), "of {v}");
+        assert_eq!(rt;
+            hex8_text(rt.alloc(), v)?.as_bytes(),
+            want.as_slice(),
+            "of {v}"
+        );
     }
     let mut out = Vec::new(rt.alloc());
     for v in [0, 9, 10, 4096, u64::MAX] {
@@ -65,14 +69,21 @@ fn numbers_in_bytes_and_text(rt: HostRuntime) -> Result<(), Fail> {
 fn numbers_in_order(rt: HostRuntime) -> Result<(), Fail> {
     for (numbers, order) in [
         ([].as_slice(), [].as_slice()),
-        ([7, 3, 7, u32::MAX, 0].as_slice(), [0, 3, 7, u32::MAX].as_slice()),
+        (
+            [7, 3, 7, u32::MAX, 0].as_slice(),
+            [0, 3, 7, u32::MAX].as_slice(),
+        ),
         ([2, 2, 2].as_slice(), [2].as_slice()),
     ] {
         let mut list = Vec::from_slice(rt.alloc(), numbers)?;
         put_in_order(&mut list);
         assert_eq!(rt; list.as_slice(), order, "{numbers:?}");
         for number in [0, 1, 2, 3, 4, 7, u32::MAX] {
-            assert_eq!(rt; has(&list, number), order.contains(&number), "{number} in {order:?}");
+            assert_eq!(rt;
+                has(&list, number),
+                order.contains(&number),
+                "{number} in {order:?}"
+            );
         }
     }
     Ok(())
