@@ -5,4 +5,5 @@ pub mod Lists
 pub mod Marks
 pub mod Parts
 pub mod Places
+pub mod Split
 pub mod Turned
