@@ -1,3 +1,4 @@
+pub mod Complete
 pub mod Entries
 pub mod Found
 pub mod Kept

@@ -4,6 +4,7 @@
 mod entering;
 mod finding;
 mod keeping;
+mod looking;
 mod marking;
 mod ordering;
 mod parting;
