@@ -1,9 +1,12 @@
 pub mod Complete
 pub mod Entries
 pub mod Found
+pub mod Gathered
 pub mod Kept
 pub mod Lists
+pub mod Loops
 pub mod Marks
+pub mod Nested
 pub mod Parts
 pub mod Places
 pub mod Split
