@@ -1,6 +1,6 @@
 #!/bin/sh
 # Compares what the program says of each executable in examples/ with what stands beside it: its listing, and the
-# report or the refusal of its bound. It prints what differs, and ends with status 1 where something does. Where there
+# report or the refusal of its bound, by one table of cycles or by two. It prints what differs, and ends with status 1 where something does. Where there
 # is no program it says so and ends with status 0.
 #
 # BOUNDT: the program; else crates/boundt/out/boundt, which `rt run` in crates/boundt proves, builds and leaves there.
@@ -23,6 +23,10 @@ for image in *.elf; do
     diff -u "$name.listing" "$said" || status=1
     "$boundt" bound "$image" erc32.cycles "$name.assert" > "$said" 2>&1
     diff -u "$name.report" "$said" || status=1
+    if [ -f "$name.leon2.report" ]; then
+        "$boundt" bound "$image" leon2.cycles "$name.assert" > "$said" 2>&1
+        diff -u "$name.leon2.report" "$said" || status=1
+    fi
     count=$((count + 1))
 done
 echo "examples: $count executables compared"

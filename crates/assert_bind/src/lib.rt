@@ -17,6 +17,3 @@ pub use laws::{
     answers_are_all, bindings_are_meant, can_be_met_and_broken, refusals_are_first, stubs_are_those,
 };
 pub use refusal::BindRefusal;
-
-#[cfg(test)]
-mod tests;

@@ -21,6 +21,3 @@ pub use name::Name;
 pub use parsing::parse;
 pub use refusal::{AssertRefusal, Expected};
 pub use spot::{Spot, Spots};
-
-#[cfg(test)]
-mod tests;

@@ -7,3 +7,5 @@ mod bound;
 mod calls;
 #[cfg(test)]
 mod decode;
+#[cfg(test)]
+mod versions;

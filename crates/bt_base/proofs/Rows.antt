@@ -1,5 +1,6 @@
 -- Rows of numbers that rise, and graphs as rows.
-use Rattle.std.proofs.Common.{◌≡◌, ℕ, ◌+◌, ◌-◌, ◌<◌, ◌≤◌, ◌==◌, ◌&&◌, ◌||◌, Bool, true, false, List, [], ◌∷◌, length, take, drop, get_or, set, refl, sym, ◌∙◌, ap, inl, inr, arith, Result, Ok, Err, OnOk, OnErr, subst, Vec, Global}
+use Rattle.std.proofs.Common.{◌≡◌, ℕ, ◌+◌, ◌-◌, ◌<◌, ◌≤◌, ◌==◌, ◌&&◌, ◌||◌, Bool, true, false, List, [], ◌∷◌, length, take, drop, get_or, set, refl, sym}
+use Rattle.std.proofs.Common.{◌∙◌, ap, inl, inr, arith, Result, Ok, Err, OnOk, OnErr, subst, Vec, Global}
 use Rattle.std.specs.List.{insert}
 use Rattle.std.specs.List.Sorted.{IsStrictlyIncreasing}
 use Rattle.std.proofs.lemmas.List.{take-append-drop, get_or-set_same, get_or-set_other, length-set, length-map, set-get_or, map-set, get_or-map}
@@ -48,7 +49,8 @@ rising_apart xs up i j le lt =
     i j 0 le lt
 
 -- a number put between the lower and the higher ones
-pub rising-insert : (xs : List ℕ) (i y : ℕ) → IsStrictlyIncreasing xs → i ≤ length xs → ((k : ℕ) → k < i → get_or xs k 0 < y) → ((k : ℕ) → i ≤ k → k < length xs → y < get_or xs k 0) → IsStrictlyIncreasing (insert xs i y)
+pub rising-insert : (xs : List ℕ) (i y : ℕ) → IsStrictlyIncreasing xs → i ≤ length xs → ((k : ℕ) → k < i → get_or xs k 0 < y)
+    → ((k : ℕ) → i ≤ k → k < length xs → y < get_or xs k 0) → IsStrictlyIncreasing (insert xs i y)
 rising-insert xs i y up le low high k l =
     let n : length (insert xs i y) ≡ length xs + 1 = length-insert xs i y le in
     elim (cases_lt (k + 1) i) [
@@ -68,7 +70,8 @@ rising-insert xs i y up le low high k l =
               | inl g ↦
                   let s : k ≡ (k - 1) + 1 = omega arith in
                   let t : (k - 1) + 1 < length xs = omega arith in
-                  let e : get_or (insert xs i y) k 0 ≡ get_or xs (k - 1) 0 = ap (λ j. get_or (insert xs i y) j 0) s ∙ get_or-insert_above xs i y 0 (k - 1) (omega arith) le in
+                  let e : get_or (insert xs i y) k 0 ≡ get_or xs (k - 1) 0 = ap (λ j. get_or (insert xs i y) j 0) s
+                  ∙ get_or-insert_above xs i y 0 (k - 1) (omega arith) le in
                   let u : get_or xs (k - 1) 0 < get_or xs ((k - 1) + 1) 0 = up (k - 1) t in
                   let v : get_or xs ((k - 1) + 1) 0 ≡ get_or xs k 0 = ap (λ j. get_or xs j 0) (sym s) in
                   omega (arith, e, f, u, v)
@@ -145,7 +148,8 @@ module _ (rows : List (Vec ℕ Global)) (from to : ℕ) (v w : Vec ℕ Global) (
       ∙ row_edges (rows_of rows) from to w.items (omega arith) (λ k. h k ∙ ap (λ x. has x k || (k == to)) (sym (row_at rows from v l e))) n m
   edges_after (Err x) h = tt
 
-  pub graph_after : to < length rows → IsGraph (rows_of rows) → IsStrictlyIncreasing w.items → ((m : ℕ) → has w.items m ≡ true → (has v.items m || (m == to)) ≡ true) → IsGraph (rows_of (set rows from w))
+  pub graph_after : to < length rows → IsGraph (rows_of rows) → IsStrictlyIncreasing w.items
+      → ((m : ℕ) → has w.items m ≡ true → (has v.items m || (m == to)) ≡ true) → IsGraph (rows_of (set rows from w))
   graph_after t g up h =
       let size : length (rows_of rows) ≡ length rows = length-map rows (λ (x : Vec ℕ Global). x.items) in
       subst IsGraph (sym (rows_set rows from w))

@@ -1,3 +1,4 @@
+pub mod Ask
 pub mod File
 pub mod FileShelf
 pub mod Graph

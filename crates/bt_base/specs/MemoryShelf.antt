@@ -1,7 +1,8 @@
 -- What a shelf in memory shows: its files, a count of faults for each and one for all other names, the
--- numbers of the calls that are to fail, and the number of the next call.
+-- numbers of the calls that are to fail, the number of the next call, and what was asked.
 use Rattle.std.specs.Prelude.{◌==◌, ◌&&◌, ℕ, Bool, ◌+◌, ◌-◌, ◌^◌, List, length, Option, Some, None, Result, Ok, Err, min, if◌then◌else◌}
 use Rattle.std.specs.List.{list_any}
+use Rattle.bt_base.specs.Ask.{Ask}
 use Rattle.bt_base.specs.File.{bytes_at, count_at, is_counted_with, place_of}
 use Rattle.bt_base.specs.Shelf.{risen}
 use Rattle.bt_base.specs.declared.memory_shelf.MemoryShelf.{MemoryShelf}
@@ -23,6 +24,10 @@ calls_of shelf = shelf.calls
 -- the numbers of the calls that are to fail
 abbrev pub fails_of : MemoryShelf → List ℕ
 fails_of shelf = shelf.fail.items
+
+-- what was asked so far
+abbrev pub asked_of : MemoryShelf → List Ask
+asked_of shelf = shelf.trail.asks
 
 -- what is answered from these bytes: as many as the buffer and the rest of the file allow
 abbrev pub answer_from : Option (List ℕ) → ℕ → ℕ → Result ℕ NoFetch

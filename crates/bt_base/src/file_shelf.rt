@@ -1,7 +1,9 @@
-ghost use Rattle.std.specs.Prelude.{◌≡◌, ℕ, ◌≤◌, List, [], None, Ok, IfOk, IsErrOf, length, is_err, if◌then◌else◌};
-ghost use Rattle.bt_base.specs.FileShelf.{faults_of};
+ghost use Rattle.std.specs.Prelude.{◌≡◌, ℕ, ◌≤◌, List, [], ◌∷◌, None, Ok, IfOk, IsErrOf, length, is_err, if◌then◌else◌};
+ghost use Rattle.bt_base.specs.FileShelf.{faults_of, asked_of};
+ghost use Rattle.bt_base.specs.Ask.{given_by};
 ghost use Rattle.bt_base.specs.Shelf.{TellsTheSame, NoneFalls, Rose, Told, Gives, risen};
 
+use crate::trail::Trail;
 use crate::{NoFetch, Shelf};
 use std::fs;
 use std::io::{self, ErrorKind, Read, Seek, SeekFrom};
@@ -14,14 +16,20 @@ use std::rt::Files;
 pub struct FileShelf<R: Files + Drop> {
     rt: R,
     faults: u64,
+    trail: Trail,
 }
 
 impl<R: Files + Drop> FileShelf<R> {
     /// The files of this runtime, with no fault so far.
     pub fn new(rt: R) -> FileShelf<R>
-        ensures { faults_of result ≡ 0 }
+        ensures faults { faults_of result ≡ 0 }
+        ensures asked { asked_of result ≡ [] }
     {
-        FileShelf { rt, faults: 0 }
+        FileShelf {
+            rt,
+            faults: 0,
+            trail: Trail::new(),
+        }
     }
 }
 
@@ -39,9 +47,12 @@ impl<R: Files + Drop> Shelf for FileShelf<R> {
 
     ghost faults = { λ shelf _. faults_of shelf };
 
+    ghost asked = { asked_of };
+
     /// Counts a fault at each error, and answers `Want` where the system has no memory for it.
     fn fetch(&mut self, name: &str, at: u64, into: &mut [u8]) -> Result<usize, NoFetch>
         ensures same { TellsTheSame (λ _. None) (λ _. None) }
+        ensures asked { asked_of self.new ≡ (name.now, at, length into.old, given_by result) ∷ asked_of self.old }
         ensures counts { NoneFalls (λ _. faults_of self.old) (λ _. faults_of self.new) }
         ensures within { IfOk result (λ n. n ≤ length into.old) }
         ensures given { IfOk result (λ n. Told (λ _. None) name.now (λ bytes. Gives bytes at into.new n)) }
@@ -51,11 +62,17 @@ impl<R: Files + Drop> Shelf for FileShelf<R> {
         ensures faults { faults_of self.new ≡ (if is_err result then risen (faults_of self.old) else faults_of self.old) }
     {
         if into.is_empty() {
+            self.trail.note(&[at, 0, 0], name.as_bytes());
             return Ok(0);
         }
+        let room = into.len() as u64;
         match read_at(&self.rt, name, at, into) {
-            Ok(count) => Ok(count),
+            Ok(count) => {
+                self.trail.note(&[at, room, count as u64], name.as_bytes());
+                Ok(count)
+            }
             Err(error) => {
+                self.trail.note(&[at, room, 0], name.as_bytes());
                 self.faults = self.faults.saturating_add(1);
                 if error.kind() == ErrorKind::OutOfMemory {
                     Err(NoFetch::Want)

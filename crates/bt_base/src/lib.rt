@@ -1,5 +1,5 @@
-//! What every crate of boundt stands on: the outside as two traits, its implementations in memory and
-//! over the system, reading and writing of whole texts, numbers in bytes and in text, and graphs.
+//! The base of most crates of boundt: the outside as two traits, its implementations in memory and over the
+//! system, reading and writing of whole texts, numbers in bytes and in text, lists that rise, and graphs.
 #![tactic(auto)]
 
 mod faults;
@@ -10,9 +10,11 @@ mod memory_sink;
 mod numbers;
 mod out_sink;
 mod reading;
+mod rising;
 mod shelf;
 mod sink;
 mod texts;
+mod trail;
 mod writing;
 
 pub use faults::{Failed, Want};
@@ -23,10 +25,8 @@ pub use memory_sink::MemorySink;
 pub use numbers::{be16, be32};
 pub use out_sink::OutSink;
 pub use reading::{ReadRefusal, read_all};
+pub use rising::{has, put_in_order};
 pub use shelf::{NoFetch, Shelf};
 pub use sink::Sink;
-pub use texts::{hex8, put_decimal, put_signed};
+pub use texts::{hex8, hex8_text, put_decimal, put_signed};
 pub use writing::{Unwritten, write_all};
-
-#[cfg(test)]
-mod tests;

@@ -1,8 +1,10 @@
-ghost use Rattle.std.specs.Prelude.{◌≡◌, ℕ, ◌+◌, ◌-◌, ◌^◌, ◌<◌, ◌≤◌, ◌↔◌, List, [], Option, length, take, drop, map, min, IfOk, IsErrOf, Ok, vec_len, slice_set, slice_index, IfSome, IfNone, string_bytes, if◌then◌else◌, is_err, OnErr};
+ghost use Rattle.std.specs.Prelude.{◌≡◌, ℕ, ◌+◌, ◌-◌, ◌^◌, ◌<◌, ◌≤◌, ◌↔◌, List, [], ◌∷◌, Option, length, take, drop, map, min, IfOk, IsErrOf, Ok, vec_len, slice_set, slice_index, IfSome, IfNone, string_bytes, if◌then◌else◌, is_err, OnErr};
 ghost use Rattle.std.specs.Option.{ForSome};
 ghost use Rattle.bt_base.specs.File.{place_of, bytes_at, count_at, is_counted_with};
+ghost use Rattle.bt_base.specs.Ask.{given_by};
 ghost use Rattle.bt_base.specs.Shelf.{TellsTheSame, NoneFalls, Rose, Told, Gives, risen};
 
+use crate::trail::Trail;
 use crate::{NoFetch, Shelf, Want};
 use std::alloc::Global;
 
@@ -17,6 +19,7 @@ pub struct MemoryShelf {
     missing: u64,
     fail: Vec<u64>,
     calls: u64,
+    trail: Trail,
     ghost counted: { vec_len counts ≡ vec_len files },
 }
 
@@ -55,7 +58,7 @@ fn count_fault(counts: &mut Vec<u64>, missing: &mut u64, place: Option<usize>)
 }
 
 impl MemoryShelf {
-    ghost use Rattle.bt_base.specs.MemoryShelf.{told_of, faults_of, calls_of, fails_of};
+    ghost use Rattle.bt_base.specs.MemoryShelf.{told_of, faults_of, calls_of, fails_of, asked_of};
 
     /// A shelf of these files, whose calls of `fetch` with the numbers in `fail`, from 0, are faults.
     pub fn new(
@@ -67,6 +70,7 @@ impl MemoryShelf {
         ensures faults { IfOk result (λ shelf. (name : List ℕ) → faults_of shelf name ≡ 0) }
         ensures fails { IfOk result (λ shelf. fails_of shelf ≡ fail.items) }
         ensures calls { IfOk result (λ shelf. calls_of shelf ≡ 0) }
+        ensures asked { IfOk result (λ shelf. asked_of shelf ≡ []) }
     {
         let counts = vec![in alloc; 0u64; files.len()]?;
         Ok(MemoryShelf {
@@ -75,21 +79,25 @@ impl MemoryShelf {
             missing: 0,
             fail,
             calls: 0,
+            trail: Trail::new(),
         })
     }
 }
 
 impl Shelf for MemoryShelf {
-    ghost use Rattle.bt_base.specs.MemoryShelf.{told_of, faults_of, answer_of, next_call, calls_of, fails_of, faults_after};
+    ghost use Rattle.bt_base.specs.MemoryShelf.{told_of, faults_of, asked_of, answer_of, next_call, calls_of, fails_of, faults_after};
 
     ghost told = { told_of };
 
     ghost faults = { faults_of };
 
+    ghost asked = { asked_of };
+
     /// Fails exactly where its number is to fail or the name isn't there; else it gives as many bytes as
     /// `into` and the rest of the file allow. It never wants memory.
     fn fetch(&mut self, name: &str, at: u64, into: &mut [u8]) -> Result<usize, NoFetch>
         ensures same { TellsTheSame (told_of self.old) (told_of self.new) }
+        ensures asked { asked_of self.new ≡ (name.now, at, length into.old, given_by result) ∷ asked_of self.old }
         ensures counts { NoneFalls (faults_of self.old) (faults_of self.new) }
         ensures within { IfOk result (λ n. n ≤ length into.old) }
         ensures given { IfOk result (λ n. Told (told_of self.old) name.now (λ bytes. Gives bytes at into.new n)) }
@@ -103,18 +111,26 @@ impl Shelf for MemoryShelf {
         ensures fails { fails_of self.new ≡ fails_of self.old }
     {
         if into.is_empty() {
+            self.trail.note(&[at, 0, 0], name.as_bytes());
             return Ok(0);
         }
         let number = self.calls;
         self.calls = number.saturating_add(1);
         let place = place_of(&self.files, name);
+        let room = into.len() as u64;
         if self.fail.contains(&number) {
+            self.trail.note(&[at, room, 0], name.as_bytes());
             count_fault(&mut self.counts, &mut self.missing, place);
             return Err(NoFetch::Failed);
         }
         match place {
-            Some(place) => Ok(copy_from(&self.files[place].1, at, into)),
+            Some(place) => {
+                let count = copy_from(&self.files[place].1, at, into);
+                self.trail.note(&[at, room, count as u64], name.as_bytes());
+                Ok(count)
+            }
             None => {
+                self.trail.note(&[at, room, 0], name.as_bytes());
                 count_fault(&mut self.counts, &mut self.missing, None);
                 Err(NoFetch::Failed)
             }

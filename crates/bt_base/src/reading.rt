@@ -1,4 +1,5 @@
-ghost use Rattle.std.specs.Prelude.{◌≡◌, ℕ, ◌<◌, ◌≤◌, List, length, IfOk, IsErrOf, vec_len, ◌++◌, ◌-◌, ◌+◌, take, drop, min, if◌then◌else◌};
+ghost use Rattle.std.specs.Prelude.{◌≡◌, ℕ, ◌<◌, ◌≤◌, List, length, IfOk, IsErrOf, vec_len, ◌∷◌, ◌++◌, ◌-◌, ◌+◌, take, drop, min, if◌then◌else◌};
+ghost use Rattle.bt_base.specs.Ask.{IsReading, IsReadTo, WasAsked};
 ghost use Rattle.bt_base.specs.Shelf.{TellsTheSame, NoneFalls, Rose, Told};
 
 use crate::{NoFetch, Shelf, Want};
@@ -33,6 +34,8 @@ fn read_piece<F: Shelf>(
     requires below { vec_len bytes.old ≤ limit }
     ensures same { TellsTheSame (F.told shelf.old) (F.told shelf.new) }
     ensures counts { NoneFalls (F.faults shelf.old) (F.faults shelf.new) }
+    ensures asked { WasAsked name.now (vec_len bytes.old) (min (limit - vec_len bytes.old) 65535 + 1) (F.asked shelf.old) (F.asked shelf.new) }
+    ensures gave { IfOk result (λ n. F.asked shelf.new ≡ (name.now, vec_len bytes.old, min (limit - vec_len bytes.old) 65535 + 1, n) ∷ F.asked shelf.old) }
     ensures grown { IfOk result (λ n. vec_len bytes.new ≡ vec_len bytes.old + n) }
     ensures given { IfOk result (λ n. Told (F.told shelf.old) name.now (λ told. bytes.new.items ≡ bytes.old.items ++ take n (drop (vec_len bytes.old) told))) }
     ensures end { IfOk result (λ n. Told (F.told shelf.old) name.now (λ told. n ≡ 0 → length told ≤ vec_len bytes.old)) }
@@ -54,7 +57,8 @@ fn read_piece<F: Shelf>(
 /// The whole of a file of at most `limit` bytes.
 ///
 /// It is `Fault` only where a read of this name failed in this call, and `TooLong` exactly where the file
-/// is longer than `limit`; of a longer file `limit` + 1 bytes are read.
+/// is longer than `limit`; of a longer file `limit` + 1 bytes are read. Nothing else is asked of the shelf than
+/// this name's bytes in order, each once and up to `limit` + 1.
 pub fn read_all<F: Shelf>(
     alloc: Global,
     shelf: &mut F,
@@ -63,6 +67,8 @@ pub fn read_all<F: Shelf>(
 ) -> Result<Vec<u8>, ReadRefusal>
     ensures same { TellsTheSame (F.told shelf.old) (F.told shelf.new) }
     ensures counts { NoneFalls (F.faults shelf.old) (F.faults shelf.new) }
+    ensures asked { IsReading name.now limit (F.asked shelf.old) (F.asked shelf.new) }
+    ensures gave { IfOk result (λ bytes. IsReadTo name.now limit (F.asked shelf.old) (F.asked shelf.new) (vec_len bytes)) }
     ensures whole { IfOk result (λ bytes. Told (F.told shelf.old) name.now (λ told. bytes.items ≡ told)) }
     ensures within { IfOk result (λ bytes. vec_len bytes ≤ limit) }
     ensures too_long { (l : ℕ) → IsErrOf result (ReadRefusal.TooLong l) →

@@ -1,9 +1,10 @@
-ghost use Rattle.std.specs.Prelude.{◌≡◌, ◌++◌, ◌/◌, ◌%◌, ◌^◌, ◌<◌, decimal, is_ok, if◌then◌else◌};
+ghost use Rattle.std.specs.Prelude.{◌≡◌, ◌++◌, ◌/◌, ◌%◌, ◌^◌, ◌<◌, decimal, is_ok, string_bytes, IfOk, if◌then◌else◌};
 ghost use Rattle.std.specs.Fmt.{signed_decimal};
 ghost use Rattle.bt_base.specs.Text.{hex8_of, hex_digit};
 
 use crate::Want;
 use itoa::Buffer;
+use std::alloc::Global;
 
 /// The lower-case hexadecimal digit of a number below 16.
 fn hex_digit(d: u8) -> u8
@@ -31,6 +32,17 @@ pub fn hex8(v: u32) -> [u8; 8]
         digit(4),
         digit(0),
     ]
+}
+
+/// The number as a text of eight lower-case hexadecimal digits, as addresses and words are shown.
+pub fn hex8_text(alloc: Global, v: u32) -> Result<String, Want>
+    ensures { IfOk result (λ text. string_bytes text ≡ hex8_of v) }
+{
+    let digits = Vec::from_slice(alloc, &hex8(v))?;
+    match String::from_utf8(digits) {
+        Ok(text) => Ok(text),
+        Err(_) => unreachable!(),
+    }
 }
 
 /// Appends the number in decimal. Where memory is wanting nothing changes.

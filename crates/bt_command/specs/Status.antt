@@ -91,14 +91,10 @@ parse_text (parse.Line n column what) = codes "Line n " ++ (decimal n ++ (codes 
 parse_text (parse.Limit count) = codes "Limit count " ++ decimal count
 parse_text parse.Want = codes "Want"
 
--- an address as eight hexadecimal digits
-unfoldable pub address_text : ℕ → List ℕ
-address_text address = hex8_of address
-
 -- why assertions can't be bound to an image
 abbrev pub bind_text : BindRefusal → List ℕ
 bind_text (bind.NoName line) = codes "NoName line " ++ decimal line
-bind_text (bind.NotCode line addr) = codes "NotCode line " ++ (decimal line ++ (codes " addr " ++ address_text addr))
+bind_text (bind.NotCode line addr) = codes "NotCode line " ++ (decimal line ++ (codes " addr " ++ hex8_of addr))
 bind_text (bind.EmptyRange line) = codes "EmptyRange line " ++ decimal line
 bind_text (bind.Conflict line other) = codes "Conflict line " ++ (decimal line ++ (codes " other " ++ decimal other))
 bind_text bind.Want = codes "Want"

@@ -1,10 +1,10 @@
 //! The texts of the refusals in a message: a name, then each field's name and its value.
 ghost use Rattle.std.specs.Prelude.{◌≡◌, IfOk, string_bytes};
-ghost use Rattle.bt_command.specs.Status.{counted_text, image_text, why_text, cycles_text, expected_text, parse_text, address_text, bind_text};
+ghost use Rattle.bt_command.specs.Status.{counted_text, image_text, why_text, cycles_text, expected_text, parse_text, bind_text};
 
 use assert_bind::BindRefusal;
 use assert_lang::{AssertRefusal, Expected};
-use bt_base::{Want, hex8};
+use bt_base::{Want, hex8_text};
 use bt_image::{Counted, ImageRefusal};
 use cycle_table::{CycleRefusal, Why, class_name};
 use std::alloc::Global;
@@ -129,18 +129,6 @@ pub fn parse_text(alloc: Global, refusal: &AssertRefusal) -> Result<String, Want
     }
 }
 
-/// An address as eight hexadecimal digits.
-#[tactic(auto, unfolding(crate::specs::Status::address_text))]
-fn address_text(alloc: Global, address: u32) -> Result<String, Want>
-    ensures { IfOk result (λ text. string_bytes text ≡ address_text address) }
-{
-    let digits = Vec::from_slice(alloc, &hex8(address))?;
-    match String::from_utf8(digits) {
-        Ok(text) => Ok(text),
-        Err(_) => unreachable!(),
-    }
-}
-
 /// Why assertions can't be bound to an image.
 pub fn bind_text(alloc: Global, refusal: &BindRefusal) -> Result<String, Want>
     ensures { IfOk result (λ text. string_bytes text ≡ bind_text refusal.now) }
@@ -148,7 +136,7 @@ pub fn bind_text(alloc: Global, refusal: &BindRefusal) -> Result<String, Want>
     let text = match refusal {
         BindRefusal::NoName { line } => format!(in alloc; "NoName line {line}"),
         BindRefusal::NotCode { line, addr } => {
-            let addr = address_text(alloc, *addr)?;
+            let addr = hex8_text(alloc, *addr)?;
             format!(in alloc; "NotCode line {line} addr {addr}")
         }
         BindRefusal::EmptyRange { line } => format!(in alloc; "EmptyRange line {line}"),

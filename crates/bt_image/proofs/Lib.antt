@@ -12,3 +12,4 @@ pub mod RisingLemmas
 pub mod StringLemmas
 pub mod SymbolLemmas
 pub mod ValueLemmas
+pub mod StandingLemmas

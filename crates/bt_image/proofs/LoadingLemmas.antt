@@ -293,12 +293,13 @@ overlap-none file clear =
     first_of-none (λ a. first_of (overlap file a) (section_count file)) (section_count file)
     (λ a alt. first_of-none (overlap file a) (section_count file) (λ b blt. clear a b blt))
 
--- a section that shares an address with one before it is an overlap
+-- what isn't nothing is something
 some_unless : {X : Type 0} (o : Option X) → (o ≡ None → ⊥) → IsSome o
 some_unless None h = absurd (h refl)
 some_unless (Some x) h = refl
 
-overlap_shared : (file : List ℕ) (a b : ℕ) → a < b → is_loaded (section_at file a) ≡ true → is_loaded (section_at file b) ≡ true
+-- a section that shares an address with one before it is an overlap
+pub overlap_shared : (file : List ℕ) (a b : ℕ) → a < b → is_loaded (section_at file a) ≡ true → is_loaded (section_at file b) ≡ true
     → share (section_at file a) (section_at file b) ≡ true → overlap file a b ≡ Some (SectionOverlap a b)
 unfolding overlap
 overlap_shared file a b lt p q r = let e : nat_lt a b ≡ true = grind (arith, nat_tests) in rw (e, p, q, r) refl

@@ -4,6 +4,7 @@ pub mod Extent
 pub mod File
 pub mod Image
 pub mod Label
+pub mod Law
 pub mod Least
 pub mod Loaded
 pub mod Names

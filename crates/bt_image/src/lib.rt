@@ -9,6 +9,7 @@ mod functions;
 mod headers;
 mod image;
 mod labels;
+mod laws;
 mod loaded;
 mod loading;
 mod names;
@@ -23,7 +24,5 @@ mod symbols;
 mod values;
 
 pub use image::Image;
+pub use laws::{bytes_do_not_mix, code_is_read_only, words_are_read_only};
 pub use refusal::{Counted, ImageRefusal};
-
-#[cfg(test)]
-mod tests;

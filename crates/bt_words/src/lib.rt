@@ -9,6 +9,3 @@ pub use laws::{
     commands_come_first, faultless_words_ask, one_name_asks, three_names_ask, workers_are_asked,
 };
 pub use request::{NoRequest, Request, request_of};
-
-#[cfg(test)]
-mod tests;

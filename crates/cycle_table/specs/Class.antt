@@ -1,12 +1,14 @@
 -- The classes of instructions in a table of cycles: their order, their places and their names.
-use Rattle.std.specs.Prelude.{◌==◌, ℕ, List, [], ◌∷◌, Option, find, slice_index, codes}
+use Rattle.std.specs.Prelude.{◌==◌, ℕ, Bool, not, if◌then◌else◌, List, [], ◌∷◌, take, Option, find, slice_index, codes}
 use Rattle.std.specs.Str.{bytes_eq}
+use Rattle.cycle_table.specs.declared.classes.Version.{Version}
+use Rattle.cycle_table.specs.declared.classes.Version.TheVariants.{One, Two}
 use Rattle.sparc_decode.specs.declared.cost_class.CostClass.{CostClass}
-use Rattle.sparc_decode.specs.declared.cost_class.CostClass.TheVariants.{Alu, Shift, Sethi, Tagged, Mulscc, Save, Restore, Branch, Floatbranch, Call, Jump, Load, Loaddouble, Store, Storedouble, Atomic, Ready, Writey, Flush, Floatop, Floatcmp, Floatload, Floatloaddouble, Floatstore, Floatstoredouble, Trap, Annulled, Unmodelled}
+use Rattle.sparc_decode.specs.declared.cost_class.CostClass.TheVariants.{Alu, Shift, Sethi, Tagged, Mulscc, Save, Restore, Branch, Floatbranch, Call, Jump, Load, Loaddouble, Store, Storedouble, Atomic, Ready, Writey, Flush, Floatop, Floatcmp, Floatload, Floatloaddouble, Floatstore, Floatstoredouble, Trap, Annulled, Loaduse, Multiply, Divide, Unmodelled}
 
 -- the classes in the order of a table
 abbrev pub classes : List CostClass
-classes = Alu ∷ Shift ∷ Sethi ∷ Tagged ∷ Mulscc ∷ Save ∷ Restore ∷ Branch ∷ Floatbranch ∷ Call ∷ Jump ∷ Load ∷ Loaddouble ∷ Store ∷ Storedouble ∷ Atomic ∷ Ready ∷ Writey ∷ Flush ∷ Floatop ∷ Floatcmp ∷ Floatload ∷ Floatloaddouble ∷ Floatstore ∷ Floatstoredouble ∷ Trap ∷ Annulled ∷ []
+classes = Alu ∷ Shift ∷ Sethi ∷ Tagged ∷ Mulscc ∷ Save ∷ Restore ∷ Branch ∷ Floatbranch ∷ Call ∷ Jump ∷ Load ∷ Loaddouble ∷ Store ∷ Storedouble ∷ Atomic ∷ Ready ∷ Writey ∷ Flush ∷ Floatop ∷ Floatcmp ∷ Floatload ∷ Floatloaddouble ∷ Floatstore ∷ Floatstoredouble ∷ Trap ∷ Annulled ∷ Loaduse ∷ Multiply ∷ Divide ∷ []
 
 -- the place of a class in that order; the class that has no cost comes after them
 abbrev pub place_of : CostClass → ℕ
@@ -37,7 +39,10 @@ place_of Floatstore = 23
 place_of Floatstoredouble = 24
 place_of Trap = 25
 place_of Annulled = 26
-place_of Unmodelled = 27
+place_of Loaduse = 27
+place_of Multiply = 28
+place_of Divide = 29
+place_of Unmodelled = 30
 
 -- the name of a class in a table
 abbrev pub name_of : CostClass → List ℕ
@@ -68,16 +73,37 @@ name_of Floatstore = codes "floatstore"
 name_of Floatstoredouble = codes "floatstoredouble"
 name_of Trap = codes "trap"
 name_of Annulled = codes "annulled"
+name_of Loaduse = codes "loaduse"
+name_of Multiply = codes "multiply"
+name_of Divide = codes "divide"
 name_of Unmodelled = codes "unmodelled"
 
--- the class that a word names
-unfoldable pub class_named : List ℕ → Option CostClass
-class_named word = find (λ class. bytes_eq (name_of class) word) classes
+-- how many classes a version has: the second has three behind those of the first
+abbrev pub count_of : Version → ℕ
+count_of One = 27
+count_of Two = 30
+
+-- the classes of a version, in that order
+abbrev pub classes_of : Version → List CostClass
+classes_of One = take 27 classes
+classes_of Two = classes
+
+-- the class of a version that a word names
+unfoldable pub class_named : Version → List ℕ → Option CostClass
+class_named version word = find (λ class. bytes_eq (name_of class) word) (classes_of version)
 
 -- the cost of a class among the costs in that order, and 0 where it has none
 abbrev pub cost_at : List ℕ → CostClass → ℕ
 cost_at costs class = slice_index costs (place_of class)
 
--- the first class whose cost is 0
-unfoldable pub first_free : List ℕ → Option CostClass
-first_free costs = find (λ class. cost_at costs class == 0) classes
+-- the first class of a version whose cost is 0
+unfoldable pub first_free : Version → List ℕ → Option CostClass
+first_free version costs = find (λ class. cost_at costs class == 0) (classes_of version)
+
+-- the version of a table with these costs: a class that its version hasn't costs 0, and every other at least 1
+abbrev pub version_of : List ℕ → Version
+version_of costs = if cost_at costs Loaduse == 0 then One else Two
+
+-- whether a table is of version 2, by which it charges the multiplications and divisions of SPARC Version 8
+abbrev pub has_eight : List ℕ → Bool
+has_eight costs = not (cost_at costs Loaduse == 0)

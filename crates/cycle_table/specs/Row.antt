@@ -1,7 +1,9 @@
 -- The lines of a table that have words, and what each says.
-use Rattle.std.specs.Prelude.{ℕ, ◌+◌, Bool, false, ◌&&◌, List, [], ◌∷◌, Option, Some, None, Result, Ok, Err, codes}
+use Rattle.std.specs.Prelude.{ℕ, ◌+◌, if◌then◌else◌, List, [], ◌∷◌, Option, Some, None, Result, Ok, Err, codes}
 use Rattle.std.specs.Str.{bytes_eq}
 use Rattle.cycle_table.specs.Class.{class_named}
+use Rattle.cycle_table.specs.declared.classes.Version.{Version}
+use Rattle.cycle_table.specs.declared.classes.Version.TheVariants.{One, Two}
 use Rattle.line_text.specs.LineText.{uncommented, words_of}
 use Rattle.line_text.specs.Numeral.{number_up_to}
 use Rattle.cycle_table.specs.declared.refusal.Why.{Why}
@@ -23,10 +25,14 @@ abbrev pub rows_from : ℕ → List (List ℕ) → List Row
 rows_from number [] = []
 rows_from number (line ∷ rest) = onto number (words_of (uncommented line)) (rows_from (number + 1) rest)
 
--- the first line of a table: `cycles 1`
-abbrev pub is_header : List (List ℕ) → Bool
-is_header (name ∷ version ∷ []) = bytes_eq name (codes "cycles") && bytes_eq version (codes "1")
-is_header _ = false
+-- the version that a word is
+abbrev pub version_named : List ℕ → Option Version
+version_named word = if bytes_eq word (codes "1") then Some One else (if bytes_eq word (codes "2") then Some Two else None)
+
+-- the version of a table whose first line has these words, which is `cycles 1` or `cycles 2`
+abbrev pub header_of : List (List ℕ) → Option Version
+header_of (name ∷ version ∷ []) = if bytes_eq name (codes "cycles") then version_named version else None
+header_of _ = None
 
 -- a class and what it costs, where nothing follows
 abbrev pub ends_with : CostClass → Option ℕ → List (List ℕ) → Result (CostClass × ℕ) Why
@@ -48,7 +54,7 @@ abbrev pub names_as : Option CostClass → List (List ℕ) → Result (CostClass
 names_as None more = Err Class
 names_as (Some class) more = costs_as class more
 
--- what the words of a line say: a class and its cost, or what is wrong with them
-abbrev pub says : List (List ℕ) → Result (CostClass × ℕ) Why
-says [] = Err Class
-says (name ∷ more) = names_as (class_named name) more
+-- what the words of a line of a version say: a class and its cost, or what is wrong with them
+abbrev pub says : Version → List (List ℕ) → Result (CostClass × ℕ) Why
+says version [] = Err Class
+says version (name ∷ more) = names_as (class_named version name) more

@@ -1,11 +1,20 @@
 //! The classes of instructions in a table of cycles: their order, their places and their names.
 ghost use Rattle.std.specs.Prelude.{◌≡◌, ◌≤◌};
-ghost use Rattle.cycle_table.specs.Class.{classes, place_of, name_of, class_named, cost_at, first_free};
+ghost use Rattle.cycle_table.specs.Class.{classes_of, place_of, name_of, class_named, cost_at, first_free};
 
 use sparc_decode::CostClass;
 
+/// The versions of a table.
+#[derive(Clone, Copy, Debug, PartialEq, Eq)]
+pub enum Version {
+    /// The classes of SPARC Version 7.
+    One,
+    /// And uses behind a load, and the multiplications and divisions of SPARC Version 8.
+    Two,
+}
+
 /// How many classes have a cost.
-pub const COUNT: usize = 27;
+pub const COUNT: usize = 30;
 
 /// The classes in the order of a table.
 const CLASSES: [CostClass; COUNT] = [
@@ -36,7 +45,20 @@ const CLASSES: [CostClass; COUNT] = [
     CostClass::Floatstoredouble,
     CostClass::Trap,
     CostClass::Annulled,
+    CostClass::Loaduse,
+    CostClass::Multiply,
+    CostClass::Divide,
 ];
+
+/// The classes of a version, in the order of a table.
+fn classes_of(version: Version) -> &'static [CostClass]
+    ensures { result.now ≡ classes_of version }
+{
+    match version {
+        Version::One => &CLASSES[..27],
+        Version::Two => &CLASSES,
+    }
+}
 
 /// The place of a class in that order; a class that has no cost comes after them.
 pub fn place_of(class: CostClass) -> usize
@@ -77,16 +99,19 @@ pub fn class_name(class: CostClass) -> &'static str
         CostClass::Floatstoredouble => "floatstoredouble",
         CostClass::Trap => "trap",
         CostClass::Annulled => "annulled",
+        CostClass::Loaduse => "loaduse",
+        CostClass::Multiply => "multiply",
+        CostClass::Divide => "divide",
         CostClass::Unmodelled => "unmodelled",
     }
 }
 
-/// The class that a word names.
+/// The class of a version that a word names.
 #[tactic(auto, unfolding(crate::specs::Class::class_named))]
-pub fn class_named(word: &[u8]) -> Option<CostClass>
-    ensures { result ≡ class_named word.now }
+pub fn class_named(version: Version, word: &[u8]) -> Option<CostClass>
+    ensures { result ≡ class_named version word.now }
 {
-    CLASSES
+    classes_of(version)
         .iter()
         .copied()
         .find(|class| class_name(*class).as_bytes() == word)
@@ -99,12 +124,12 @@ pub fn cost_at(costs: &[u32; COUNT], class: CostClass) -> u32
     costs.get(place_of(class)).copied().unwrap_or(0)
 }
 
-/// The first class whose cost is 0.
+/// The first class of a version whose cost is 0.
 #[tactic(auto, unfolding(crate::specs::Class::first_free))]
-pub fn first_free(costs: &[u32; COUNT]) -> Option<CostClass>
-    ensures { result ≡ first_free costs.now }
+pub fn first_free(version: Version, costs: &[u32; COUNT]) -> Option<CostClass>
+    ensures { result ≡ first_free version costs.now }
 {
-    CLASSES
+    classes_of(version)
         .iter()
         .copied()
         .find(|class| cost_at(costs, *class) == 0)

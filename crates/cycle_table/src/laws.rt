@@ -6,7 +6,8 @@ pub fn faults_are_first()
     ensures { FaultsAreFirst }
 {}
 
-/// Lines that are a table give each class its cost, which isn't 0, on exactly one line.
+/// Lines that are a table give each class of its version its cost, which isn't 0, on exactly one line, and no other
+/// class a cost; so its costs tell its version.
 pub fn tables_are_whole()
     ensures { TablesAreWhole }
 {}

@@ -11,6 +11,3 @@ pub use classes::class_name;
 pub use laws::{faults_are_first, tables_are_whole};
 pub use refusal::{CycleRefusal, Why};
 pub use table::Cycles;
-
-#[cfg(test)]
-mod tests;

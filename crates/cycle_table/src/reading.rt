@@ -1,13 +1,14 @@
 //! The lines of a table, one after the other.
 ghost use Rattle.std.specs.Prelude.{◌≡◌, ◌+◌, ◌^◌, ◌<◌, ◌≤◌, ◌==◌, ℕ, [], ◌∷◌, length, None, Some, Ok, All, slice_set, MatchOption, MatchResult, IfOk, IfSome, OnOk};
 ghost use Rattle.std.specs.Str.Lines.{lines};
-ghost use Rattle.cycle_table.specs.Class.{place_of};
-ghost use Rattle.cycle_table.specs.Row.{rows_from, is_header, says, greatest_cost, costs_as};
+ghost use Rattle.cycle_table.specs.Class.{place_of, count_of, cost_at};
+ghost use Rattle.cycle_table.specs.Row.{rows_from, version_named, header_of, says, greatest_cost, costs_as};
 ghost use Rattle.cycle_table.specs.Table.{body_of, completed, fault_said, AreCosts};
 ghost use Rattle.line_text.specs.LineText.{words_of};
 ghost use Rattle.line_text.specs.Numeral.{number_up_to};
+ghost use Rattle.sparc_decode.specs.declared.cost_class.CostClass.{CostClass};
 
-use crate::classes::{self, COUNT};
+use crate::classes::{self, COUNT, Version};
 use crate::{CycleRefusal, Why};
 use line_text::{next_line, next_word, number_up_to, uncommented};
 use sparc_decode::CostClass;
@@ -53,15 +54,28 @@ pub fn next_row(text: &[u8], before: u32) -> Option<NextRow<'_>>
     None
 }
 
-/// Whether a line is the header.
-pub fn is_header(name: &[u8], words: &[u8]) -> bool
-    ensures { result ≡ is_header (name.now ∷ words_of words.now) }
+/// The version that a word is.
+fn version_named(word: &[u8]) -> Option<Version>
+    ensures { result ≡ version_named word.now }
 {
-    match next_word(words) {
-        None => false,
-        Some(version) => name == b"cycles".as_slice()
-            && version.text == b"1".as_slice()
-            && next_word(version.rest).is_none(),
+    if word == b"1".as_slice() {
+        Some(Version::One)
+    } else if word == b"2".as_slice() {
+        Some(Version::Two)
+    } else {
+        None
+    }
+}
+
+/// The version of a table whose first line this is, if it is a header.
+pub fn header_of(name: &[u8], words: &[u8]) -> Option<Version>
+    ensures { result ≡ header_of (name.now ∷ words_of words.now) }
+{
+    let version = next_word(words)?;
+    if next_word(version.rest).is_none() && name == b"cycles".as_slice() {
+        version_named(version.text)
+    } else {
+        None
     }
 }
 
@@ -93,12 +107,12 @@ fn costs_as(class: CostClass, words: &[u8]) -> Result<(CostClass, u32), Why>
     }
 }
 
-/// What a line says.
-fn says(name: &[u8], words: &[u8]) -> Result<(CostClass, u32), Why>
-    ensures value { result ≡ says (name.now ∷ words_of words.now) }
+/// What a line of a version says.
+fn says(version: Version, name: &[u8], words: &[u8]) -> Result<(CostClass, u32), Why>
+    ensures value { result ≡ says version (name.now ∷ words_of words.now) }
     ensures most { IfOk result (λ said. said.1 ≤ 1000000) }
 {
-    match classes::class_named(name) {
+    match classes::class_named(version, name) {
         None => Err(Why::Class),
         Some(class) => costs_as(class, words),
     }
@@ -127,22 +141,23 @@ fn put(
     Ok(())
 }
 
-/// The costs, where no class is missing.
-fn completed(costs: [u32; COUNT]) -> Result<[u32; COUNT], CycleRefusal>
-    requires { All (λ cost. cost ≤ 1000000) costs }
-    ensures value { result ≡ completed costs }
+/// The costs, where no class of the version is missing.
+fn completed(version: Version, costs: [u32; COUNT]) -> Result<[u32; COUNT], CycleRefusal>
+    requires most { All (λ cost. cost ≤ 1000000) costs }
+    requires none { (class : CostClass) → count_of version ≤ place_of class → cost_at costs class ≡ 0 }
+    ensures value { result ≡ completed version costs }
     ensures costs { IfOk result AreCosts }
 {
-    match classes::first_free(&costs) {
+    match classes::first_free(version, &costs) {
         None => Ok(costs),
         Some(class) => Err(CycleRefusal::Missing { class }),
     }
 }
 
-/// The costs in the lines behind the header, in a text with so many lines before it.
-pub fn body(text: &[u8], before: u32) -> Result<[u32; COUNT], CycleRefusal>
+/// The costs in the lines behind the header of a version, in a text with so many lines before it.
+pub fn body(version: Version, text: &[u8], before: u32) -> Result<[u32; COUNT], CycleRefusal>
     requires { before + length text.now < 2 ^ 32 }
-    ensures value { result ≡ body_of (rows_from (before + 1) (lines text.now)) }
+    ensures value { result ≡ body_of version (rows_from (before + 1) (lines text.now)) }
     ensures costs { IfOk result AreCosts }
 {
     let mut costs = [0; COUNT];
@@ -151,10 +166,10 @@ pub fn body(text: &[u8], before: u32) -> Result<[u32; COUNT], CycleRefusal>
     while let Some(row) = next_row(rest, number) {
         number = row.number;
         rest = row.after;
-        match says(row.name, row.words) {
+        match says(version, row.name, row.words) {
             Err(why) => return Err(CycleRefusal::Line { n: number, why }),
             Ok((class, cost)) => put(&mut costs, number, class, cost)?,
         }
     }
-    completed(costs)
+    completed(version, costs)
 }

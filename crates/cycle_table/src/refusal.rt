@@ -4,9 +4,9 @@ use thiserror::Error;
 /// What is wrong with a line of a table of cycles.
 #[derive(Clone, Copy, Debug, PartialEq, Eq)]
 pub enum Why {
-    /// The first line that has words isn't `cycles 1`.
+    /// The first line that has words is neither `cycles 1` nor `cycles 2`.
     Header,
-    /// Its first word names no class.
+    /// Its first word names no class of the table's version.
     Class,
     /// Its second word is wanting, isn't decimal, or is above 1,000,000.
     Number,

@@ -1,4 +1,4 @@
-ghost use Rattle.std.specs.Prelude.{◌≡◌, ◌+◌, ◌<◌, ◌^◌, ℕ, Option, Some, IfOk, IfErr, IfSome, IsSome};
+ghost use Rattle.std.specs.Prelude.{◌≡◌, ◌+◌, ◌<◌, ◌^◌, ℕ, Option, Some, None, IfOk, IfErr, IfSome, IsSome};
 ghost use Rattle.std.specs.Option.{option_map};
 ghost use Rattle.edge_publish.specs.Receipt.{Shown, IsOf, index_of, key_of};
 ghost use Rattle.edge_publish.specs.Look.{IsRead, IsOwn};
@@ -71,6 +71,15 @@ impl<K, N: About<K>> Receipt<K, N> {
     {
         self.place.index()
     }
+
+    /// The same receipt once more.
+    pub fn again(&self) -> Receipt<K, N>
+        ensures { result ≡ self.now }
+    {
+        Receipt {
+            place: self.place.again(),
+        }
+    }
 }
 
 impl<K: Copy, N: About<K>> Board<K, N> {
@@ -108,15 +117,25 @@ impl<K, N: About<K>> Board<K, N> {
         self.keys.get_seen(receipt.index(), &receipt.place).unwrap()
     }
 
-    /// The key at an index, if there is one now; at the index of a receipt that receipt's key.
-    pub(crate) fn key_at<'a>(&'a self, index: usize, own: Option<&Receipt<K, N>>) -> Option<&'a K>
-        requires { (receipt : Shown K) → option_map (λ r. r.now) own ≡ Some receipt → IsOf self.now receipt }
-        ensures read { IfSome result (λ key. IsRead N.holds (option_map (λ r. r.now) own.entry) index key.now) }
+    /// The receipt of the key at an index, if there is one now; at the index of a receipt that receipt.
+    pub(crate) fn receipt_at(
+        &self,
+        index: usize,
+        own: Option<&Receipt<K, N>>,
+    ) -> Option<Receipt<K, N>>
+        requires own { (receipt : Shown K) → option_map (λ r. r.now) own ≡ Some receipt → IsOf self.now receipt }
+        requires room { index + 1 < 2 ^ 64 }
+        ensures read { IfSome result (λ receipt. IsRead self.now (option_map (λ r. r.now) own.entry) index receipt) }
         ensures found { (receipt : Shown K) → option_map (λ r. r.now) own.entry ≡ Some receipt → index ≡ index_of receipt → IsSome result }
     {
-        match own {
-            Some(receipt) => self.keys.get_seen(index, &receipt.place),
-            None => self.keys.get(index),
+        if let Some(receipt) = own {
+            if receipt.index() == index {
+                return Some(receipt.again());
+            }
+        }
+        match self.keys.witness(index) {
+            Some(place) => Some(Receipt { place }),
+            None => None,
         }
     }
 
@@ -125,14 +144,15 @@ impl<K, N: About<K>> Board<K, N> {
         self.keys.count()
     }
 
-    /// The keys on the board from an index on, as pairs of index and key, by rising index. Where a receipt is given
-    /// whose index is at least `from`, its pair comes before the end. Keys that other threads publish meanwhile
-    /// may be missed.
+    /// The keys on the board from an index on, as pairs of index and key, by rising index; the look holds the
+    /// receipt of the pair that it gave last. Where a receipt is given whose index is at least `from`, its pair
+    /// comes before the end. Keys that other threads publish meanwhile may be missed.
     pub fn look<'a>(&'a self, from: usize, own: Option<&'a Receipt<K, N>>) -> Look<'a, K, N>
         requires { IfSome own (λ receipt. IsOf self.now receipt.now) }
         ensures board { result.board ≡ self.now }
         ensures own { result.own ≡ option_map (λ r. r.now) own.entry }
         ensures next { result.next ≡ from }
+        ensures seen { result.seen ≡ None }
     {
         let end = match own {
             Some(receipt) => self.count().max(receipt.index() + 1),

@@ -3,10 +3,9 @@
 #![tactic(auto)]
 
 mod board;
+mod laws;
 mod sight;
 
 pub use board::{About, Board, Receipt, Ruled};
+pub use laws::looks_give_own;
 pub use sight::Look;
-
-#[cfg(test)]
-mod tests;

@@ -5,6 +5,5 @@ pub mod Event
 pub mod Queue
 pub mod Readers
 pub mod Refusal
-pub mod Ring
 pub mod Staged
 pub mod Writing

@@ -16,6 +16,3 @@ pub use cores::{Closed, Core};
 pub use driving::drive;
 pub use refusals::GrowRefusal;
 pub use theorems::every_run_is_good;
-
-#[cfg(test)]
-mod tests;

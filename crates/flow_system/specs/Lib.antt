@@ -1,3 +1,5 @@
+pub mod Due
+pub mod Empty
 pub mod Facts
 pub mod Laws
 pub mod Rules

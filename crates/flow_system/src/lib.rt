@@ -3,7 +3,9 @@
 #![tactic(auto)]
 
 mod facts;
+mod laws;
 mod system;
 
 pub use facts::Facts;
+pub use laws::{due_keys, due_passes, finer_is_below};
 pub use system::{Name, System};

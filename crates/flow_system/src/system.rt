@@ -1,4 +1,5 @@
 ghost use Rattle.std.specs.Prelude.{◌≡◌, ℕ, IfOk, IsTrue, List};
+ghost use Rattle.flow_system.specs.Empty.{empty_rules};
 ghost use Rattle.flow_system.specs.Facts.{fact_at};
 ghost use Rattle.flow_system.specs.Laws.{FitOneKey, IsLawful};
 ghost use Rattle.flow_system.specs.Rules.{Rules};
@@ -7,6 +8,7 @@ ghost use Rattle.flow_system.specs.State.{AllFit};
 use crate::Facts;
 use bt_base::Want;
 use std::alloc::Global;
+use std::marker::Brand;
 
 /// A system of keys and facts.
 ///
@@ -66,4 +68,12 @@ pub trait Name<K, V> {
     ghost rules: { Rules K V };
 
     ghost limit: { ℕ };
+}
+
+/// A call that passes `Brand` picks the system and the limit that it names; where none is picked, they are those of the
+/// system that gives nothing.
+impl<K, V> Name<K, V> for Brand {
+    ghost rules = { empty_rules };
+
+    ghost limit = { 0 };
 }

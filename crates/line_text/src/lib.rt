@@ -13,6 +13,3 @@ pub use lines::{next_line, uncommented};
 pub use numerals::number_up_to;
 pub use piece::Piece;
 pub use words::{is_blank, next_word, unblanked};
-
-#[cfg(test)]
-mod tests;

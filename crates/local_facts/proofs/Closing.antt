@@ -85,3 +85,7 @@ passing_is_too_big {K} {V} cmp r q limit is refusal passing = too_big refusal (s
     too_big : (refusal : GrowRefusal) → IsPassing cmp q [] q.starts limit refusal → IsTooBig cmp q limit refusal
     too_big (Nodes count) (one_more, passes) = (one_more, λ t rise closed. passes t rise closed.fit (λ k v found. absurd (cc)) closed.starts)
     too_big Want passing = tt
+
+-- the same refusal, where rules and limits are only equal
+pub too_big_of : {K V : Type 0} (cmp : K → K → Ordering) (r q : Rules K V) (limit limit' : ℕ) → r ≡ q → limit ≡ limit' → (refusal : GrowRefusal) → IsTooBig cmp r limit refusal → IsTooBig cmp q limit' refusal
+too_big_of cmp r q limit limit' is same refusal too_big = subst (λ n. IsTooBig cmp q n refusal) same (subst (λ x. IsTooBig cmp x limit refusal) is too_big)

@@ -1,2 +1,5 @@
 mod Closing
+mod Passing
+mod Pigeons
+mod Room
 mod Searching

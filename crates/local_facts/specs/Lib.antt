@@ -1,4 +1,4 @@
 pub mod Copied
+pub mod Handed
 pub mod Laws
-pub mod Relay
 pub mod Restricted

@@ -1,8 +1,10 @@
-ghost use Rattle.std.specs.Prelude.{◌≡◌, ◌≤◌, IfOk, IfErr, List, Option};
+ghost use Rattle.std.specs.Prelude.{◌≡◌, ◌≤◌, Bool, IfOk, IfErr, IsTrue, List, Option, Some, length};
 ghost use Rattle.flow_system.specs.Facts.{fact_at};
 ghost use Rattle.flow_system.specs.State.{IsDueGraph};
 ghost use Rattle.flow_core.specs.Core.{counted_keys};
 ghost use Rattle.flow_core.specs.Refusal.{IsTooBig};
+ghost use Rattle.flow_core.specs.declared.refusals.GrowRefusal.TheVariants.{Want};
+ghost use Rattle.local_facts.specs.Handed.{IsHandedOnLocally};
 ghost use Rattle.local_facts.specs.Restricted.{IsRestriction, IsLeastLocal, restricted};
 
 use crate::local::Local;
@@ -31,10 +33,22 @@ pub fn least_is_one<S: System>(_system: &S)
         → (k : S.Key) → s k ≡ t k }
 {}
 
+/// An induction over the least map: a test of pieces that the start pieces pass, that a greater fact keeps, and that each
+/// key whose fact passes hands on to the pieces of kept keys that it gives, holds of every fact of the map. A test of keys
+/// alone is kept by a greater fact.
+pub fn local_passes<S: System>(_system: &S)
+    ensures { (starts : List (S.Key × S.Val)) (keep : List S.Key) (fixed : List (S.Key × S.Val)) (s : S.Key → Option S.Val) (test : S.Key → S.Val → Bool)
+        → IsRestriction S.Key.cmp (S.rules _system.now) starts keep fixed
+        → IsLeastLocal S.Key.cmp (S.rules _system.now) starts keep fixed s
+        → IsHandedOnLocally S.Key.cmp (S.rules _system.now) starts keep fixed s test
+        → (k : S.Key) (v : S.Val) → s k ≡ Some v → IsTrue (test k v) }
+{}
+
 /// Drives a restricted system: the least map over the kept keys that contains the start pieces, and what its keys
 /// give to kept keys with the fixed facts beside it.
 ///
-/// Nodes comes exactly where that map has more counted keys than the limit.
+/// Nodes comes exactly where that map has more counted keys than the limit; so it never comes where the limit is at least
+/// the number of kept keys.
 pub fn least_facts<'a, S: System>(
     alloc: Global,
     system: &'a S,
@@ -47,6 +61,7 @@ pub fn least_facts<'a, S: System>(
     ensures least { IfOk result (λ closed. IsLeastLocal S.Key.cmp (S.rules system.now) starts.items keep.items fixed (fact_at S.Key.cmp closed)) }
     ensures within { IfOk result (λ closed. counted_keys (S.rules system.now) closed ≤ limit) }
     ensures nodes { IfErr result (IsTooBig S.Key.cmp (restricted S.Key.cmp (S.rules system.now) starts.items keep.items fixed) limit) }
+    ensures room { length keep.items ≤ limit → IfErr result (λ refusal. refusal ≡ Want) }
 {
     let local = Local::new(system, starts, keep, fixed);
     let mut core = Core::new(alloc, &local, limit)?;

@@ -6,8 +6,6 @@ mod keeping;
 mod least;
 mod local;
 
-pub use least::{due_is_least, least_facts, least_is_one};
+pub use keeping::is_kept;
+pub use least::{due_is_least, least_facts, least_is_one, local_passes};
 pub use local::Local;
-
-#[cfg(test)]
-mod tests;

@@ -12,6 +12,3 @@ mod slots;
 pub use laws::{parts_have_one_holder, parts_keep_the_rule, steps_keep_the_rule};
 pub use seat::ShardSeat;
 pub use shards::Shards;
-
-#[cfg(test)]
-mod tests;

@@ -1,2 +1,3 @@
+pub mod FieldRanges
 pub mod RegisterSets
 pub mod Rows

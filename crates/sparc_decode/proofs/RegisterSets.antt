@@ -3,7 +3,7 @@ use Rattle.std.proofs.Common.{◌≡◌, ℕ, zero, suc, ◌*◌, ◌^◌, ◌<�
 use Rattle.std.specs.Int.{bit_at}
 use Rattle.std.specs.Int.Bits.{or_zero_r}
 use Rattle.std.proofs.lemmas.Bool.{ltb-true, lt-ltb, and_parts, and_from, cases_eq}
-use Rattle.std.proofs.lemmas.Nat.{pow_pos}
+use Rattle.std.proofs.lemmas.Nat.{pow_pos, pow_below, or_of_32}
 use Rattle.std.proofs.lemmas.Nat.Bits.{bit_at-zero, bit_at_or, bit_at-pow_same, bit_at-pow_other, bit_at-lt, and_pow}
 use Rattle.sparc_decode.specs.Register.{bit_of, mask_of, HasExactly}
 
@@ -64,6 +64,14 @@ all_listed (r ∷ rs) k (suc i) above below within is =
     let either = bit_at_or (bit_of r) (mask_of rs) k in
     let most = bit_at-lt (bit_of r) k in
     omega arith
+
+-- the set of a list of registers is a word
+pub set_is_word : (rs : List ℕ) → mask_of rs < 2 ^ 32
+set_is_word [] = omega arith
+set_is_word (r ∷ rs) = or_of_32 (bit_of r) (mask_of rs) (one (ltb 0 r && ltb r 32) refl) (set_is_word rs) where
+  one : (b : Bool) → (ltb 0 r && ltb r 32) ≡ b → cond b (2 ^ r) 0 < 2 ^ 32
+  one true inside = pow_below r 32 (ltb-true r 32 (and_parts (ltb 0 r) (ltb r 32) inside).1)
+  one false outside = omega arith
 
 -- the set of a list of registers has exactly these
 pub has_exactly : (rs : List ℕ) → HasExactly (mask_of rs) rs

@@ -4,7 +4,7 @@ use Rattle.sparc_decode.specs.declared.cost_class.CostClass.TheVariants as class
 use Rattle.sparc_decode.specs.declared.instruction.FloatKind.{FloatKind}
 use Rattle.sparc_decode.specs.declared.instruction.FloatKind.TheVariants.{Ldf, Ldfsr, Lddf, Stf, Stfsr, Stdf}
 use Rattle.sparc_decode.specs.declared.instruction.Instr.{Instr}
-use Rattle.sparc_decode.specs.declared.instruction.Instr.TheVariants.{Call, Unimp, Sethi, Branch, FloatBranch, Alu, Tagged, MulStep, Shift, ReadY, WriteY, FloatOp, FloatCmp, Jmpl, Flush, Save, Restore, Ticc, Load, Store, Atomic, FloatMem, Unmodelled, Unknown}
+use Rattle.sparc_decode.specs.declared.instruction.Instr.TheVariants.{Call, Unimp, Sethi, Branch, FloatBranch, Alu, Tagged, MulStep, Shift, ReadY, WriteY, FloatOp, FloatCmp, Jmpl, Flush, Save, Restore, Ticc, Load, Store, Atomic, FloatMem, Unmodelled, Unknown, Multiply, Divide}
 use Rattle.sparc_decode.specs.declared.instruction.LoadKind.TheVariants.{Ld, Ldub, Lduh, Ldd, Ldsb, Ldsh}
 use Rattle.sparc_decode.specs.declared.instruction.StoreKind.TheVariants.{St, Stb, Sth, Std}
 
@@ -17,7 +17,7 @@ float_class_of Stf = classes.Floatstore
 float_class_of Stfsr = classes.Floatstore
 float_class_of Stdf = classes.Floatstoredouble
 
--- the class of an instruction; no instruction is of the class of annulled ones
+-- the class of an instruction; no instruction is of the class of annulled ones, nor of that of uses behind a load
 abbrev pub class_of : Instr → CostClass
 class_of (Call disp) = classes.Call
 class_of (Unimp imm) = classes.Unmodelled
@@ -51,3 +51,5 @@ class_of (Atomic swap rd rs1 second) = classes.Atomic
 class_of (FloatMem kind rd rs1 second) = float_class_of kind
 class_of (Unmodelled word) = classes.Unmodelled
 class_of (Unknown word) = classes.Unmodelled
+class_of (Multiply cc rd rs1 second) = classes.Multiply
+class_of (Divide cc rd rs1 second) = classes.Divide

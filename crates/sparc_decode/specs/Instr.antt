@@ -4,7 +4,7 @@ use Rattle.sparc_decode.specs.Opcodes.{table_of, selector_of}
 use Rattle.sparc_decode.specs.Row.{Row, has, named_by}
 use Rattle.sparc_decode.specs.Word.{field, IsSigned}
 use Rattle.sparc_decode.specs.declared.instruction.Instr.{Instr}
-use Rattle.sparc_decode.specs.declared.instruction.Instr.TheVariants.{Call, Unimp, Sethi, Branch, FloatBranch, Alu, Tagged, MulStep, Shift, ReadY, WriteY, FloatOp, FloatCmp, Jmpl, Flush, Save, Restore, Ticc, Load, Store, Atomic, FloatMem, Unmodelled, Unknown}
+use Rattle.sparc_decode.specs.declared.instruction.Instr.TheVariants.{Call, Unimp, Sethi, Branch, FloatBranch, Alu, Tagged, MulStep, Shift, ReadY, WriteY, FloatOp, FloatCmp, Jmpl, Flush, Save, Restore, Ticc, Load, Store, Atomic, FloatMem, Unmodelled, Unknown, Multiply, Divide}
 use Rattle.sparc_decode.specs.declared.instruction.Second.{Second}
 use Rattle.sparc_decode.specs.declared.instruction.Second.TheVariants.{Reg, Imm}
 
@@ -65,3 +65,9 @@ InRange (Atomic swap rd rs1 second) = AreOperands rd rs1 second
 InRange (FloatMem kind rd rs1 second) = AreOperands rd rs1 second
 InRange (Unmodelled word) = Unit {0}
 InRange (Unknown word) = Unit {0}
+InRange (Multiply cc rd rs1 second) = AreOperands rd rs1 second
+InRange (Divide cc rd rs1 second) = AreOperands rd rs1 second
+
+-- the fields of the instruction that a word stands for are in range
+abbrev pub FieldsAreInRange : Type 0
+FieldsAreInRange = (word : ℕ) → InRange (instruction_of word)

@@ -8,7 +8,7 @@ use Rattle.sparc_decode.specs.declared.instruction.AluOp.TheVariants.{Add, And, 
 use Rattle.sparc_decode.specs.declared.instruction.FloatKind.{FloatKind}
 use Rattle.sparc_decode.specs.declared.instruction.FloatKind.TheVariants.{Ldf, Ldfsr, Lddf, Stf, Stfsr, Stdf}
 use Rattle.sparc_decode.specs.declared.instruction.Instr.{Instr}
-use Rattle.sparc_decode.specs.declared.instruction.Instr.TheVariants.{Call, Unimp, Sethi, Branch, FloatBranch, Alu, Tagged, MulStep, Shift, ReadY, WriteY, FloatOp, FloatCmp, Jmpl, Flush, Save, Restore, Ticc, Load, Store, Atomic, FloatMem, Unmodelled}
+use Rattle.sparc_decode.specs.declared.instruction.Instr.TheVariants.{Call, Unimp, Sethi, Branch, FloatBranch, Alu, Tagged, MulStep, Shift, ReadY, WriteY, FloatOp, FloatCmp, Jmpl, Flush, Save, Restore, Ticc, Load, Store, Atomic, FloatMem, Unmodelled, Multiply, Divide}
 use Rattle.sparc_decode.specs.declared.instruction.LoadKind.{LoadKind}
 use Rattle.sparc_decode.specs.declared.instruction.LoadKind.TheVariants.{Ld, Ldub, Lduh, Ldd, Ldsb, Ldsh}
 use Rattle.sparc_decode.specs.declared.instruction.Second.{Second}
@@ -63,7 +63,8 @@ branches =
 abbrev pub calls : List Row
 calls = row (0 ∷ []) (λ word. Call (field word 0 30)) ∷ []
 
--- op 2 over op3: arithmetic, shifts, jumps, windows and traps
+-- op 2 over op3: arithmetic, shifts, jumps, windows and traps; of Version 8 UMUL and SMUL, UDIV and SDIV, each with
+-- and without condition codes
 abbrev pub operations : List Row
 operations =
     alu 0x00 Add false
@@ -75,7 +76,9 @@ operations =
     ∷ alu 0x06 Orn false
     ∷ alu 0x07 Xnor false
     ∷ alu 0x08 Addx false
+    ∷ row (0x0a ∷ 0x0b ∷ []) (triple (Multiply false))
     ∷ alu 0x0c Subx false
+    ∷ row (0x0e ∷ 0x0f ∷ []) (triple (Divide false))
     ∷ alu 0x10 Add true
     ∷ alu 0x11 And true
     ∷ alu 0x12 Or true
@@ -85,7 +88,9 @@ operations =
     ∷ alu 0x16 Orn true
     ∷ alu 0x17 Xnor true
     ∷ alu 0x18 Addx true
+    ∷ row (0x1a ∷ 0x1b ∷ []) (triple (Multiply true))
     ∷ alu 0x1c Subx true
+    ∷ row (0x1e ∷ 0x1f ∷ []) (triple (Divide true))
     ∷ tagged 0x20 Taddcc
     ∷ tagged 0x21 Tsubcc
     ∷ tagged 0x22 Taddcctv

@@ -1,7 +1,7 @@
 -- The operand registers of an instruction, and sets of registers as bits.
 use Rattle.std.specs.Prelude.{◌==◌, ℕ, ◌+◌, ◌%◌, ◌^◌, ◌<◌, ◌&&◌, nat_lt, if◌then◌else◌, List, [], ◌∷◌, Contains, ◌↔◌, bit_or, IsBitSet}
 use Rattle.sparc_decode.specs.declared.instruction.Instr.{Instr}
-use Rattle.sparc_decode.specs.declared.instruction.Instr.TheVariants.{Call, Unimp, Sethi, Branch, FloatBranch, Alu, Tagged, MulStep, Shift, ReadY, WriteY, FloatOp, FloatCmp, Jmpl, Flush, Save, Restore, Ticc, Load, Store, Atomic, FloatMem, Unmodelled, Unknown}
+use Rattle.sparc_decode.specs.declared.instruction.Instr.TheVariants.{Call, Unimp, Sethi, Branch, FloatBranch, Alu, Tagged, MulStep, Shift, ReadY, WriteY, FloatOp, FloatCmp, Jmpl, Flush, Save, Restore, Ticc, Load, Store, Atomic, FloatMem, Unmodelled, Unknown, Multiply, Divide}
 use Rattle.sparc_decode.specs.declared.instruction.LoadKind.TheVariants.{Ld, Ldub, Lduh, Ldd, Ldsb, Ldsh}
 use Rattle.sparc_decode.specs.declared.instruction.Second.{Second}
 use Rattle.sparc_decode.specs.declared.instruction.Second.TheVariants.{Reg, Imm}
@@ -41,6 +41,8 @@ registers_read (Atomic swap rd rs1 second) = if swap then rd ∷ operands rs1 se
 registers_read (FloatMem kind rd rs1 second) = operands rs1 second
 registers_read (Unmodelled word) = []
 registers_read (Unknown word) = []
+registers_read (Multiply cc rd rs1 second) = operands rs1 second
+registers_read (Divide cc rd rs1 second) = operands rs1 second
 
 -- The registers that an instruction writes: CALL leaves its address in r15, and LDD writes two. Those of SAVE
 -- and RESTORE are registers of the new window.
@@ -74,6 +76,14 @@ registers_written (Atomic swap rd rs1 second) = rd ∷ []
 registers_written (FloatMem kind rd rs1 second) = []
 registers_written (Unmodelled word) = []
 registers_written (Unknown word) = []
+registers_written (Multiply cc rd rs1 second) = rd ∷ []
+registers_written (Divide cc rd rs1 second) = rd ∷ []
+
+-- the registers that an instruction loads from memory: what a load, or a load and store in one, writes
+abbrev pub registers_loaded : Instr → List ℕ
+registers_loaded (Load kind rd rs1 second) = registers_written (Load kind rd rs1 second)
+registers_loaded (Atomic swap rd rs1 second) = registers_written (Atomic swap rd rs1 second)
+registers_loaded _ = []
 
 -- the set of one register; r0, which is always 0, and numbers that are no register are never in it
 abbrev pub bit_of : ℕ → ℕ

@@ -61,11 +61,18 @@ pub enum CostClass {
     Trap,
     /// Instructions that a branch annuls.
     Annulled,
+    /// Uses of a register right behind its load.
+    Loaduse,
+    /// Multiplications.
+    Multiply,
+    /// Divisions.
+    Divide,
     /// Instructions that aren't modelled.
     Unmodelled,
 }
 
-/// The class of an instruction. No instruction is `Annulled`: a branch annuls any of them.
+/// The class of an instruction. No instruction is `Annulled`, since a branch annuls any of them, and none is `Loaduse`,
+/// which is charged to any that uses what the one before it loads.
 pub fn class(i: &Instr) -> CostClass
     ensures { result ≡ class_of i.now }
 {
@@ -102,6 +109,8 @@ pub fn class(i: &Instr) -> CostClass
         Instr::Unimp { .. } => CostClass::Unmodelled,
         Instr::Unmodelled(_) => CostClass::Unmodelled,
         Instr::Unknown(_) => CostClass::Unmodelled,
+        Instr::Multiply { .. } => CostClass::Multiply,
+        Instr::Divide { .. } => CostClass::Divide,
     }
 }
 

@@ -5,7 +5,8 @@ ghost use Rattle.sparc_decode.specs.Row.{named_by};
 
 use crate::{AluOp, FloatKind, Instr, LoadKind, ShiftOp, StoreKind, TaggedOp, fields};
 
-/// The instruction that a word stands for (SPARC Architecture Manual Version 7, "Opcodes").
+/// The instruction that a word stands for (SPARC Architecture Manual Version 7, "Opcodes"; of Version 8 the
+/// multiplications and divisions).
 ///
 /// Bits that no field names are ignored. An instruction of the manual that isn't modelled is `Unmodelled`, and
 /// a word whose opcode the manual leaves open is `Unknown`.
@@ -92,6 +93,32 @@ fn shift(op: ShiftOp, word: u32) -> Instr
     }
 }
 
+/// A multiplication.
+fn multiply(cc: bool, word: u32) -> Instr
+    ensures value { result ≡ triple (Instr.Multiply cc) word }
+    ensures fields { InRange result }
+{
+    Instr::Multiply {
+        cc,
+        rd: fields::rd(word),
+        rs1: fields::rs1(word),
+        second: fields::second(word),
+    }
+}
+
+/// A division.
+fn divide(cc: bool, word: u32) -> Instr
+    ensures value { result ≡ triple (Instr.Divide cc) word }
+    ensures fields { InRange result }
+{
+    Instr::Divide {
+        cc,
+        rd: fields::rd(word),
+        rs1: fields::rs1(word),
+        second: fields::second(word),
+    }
+}
+
 /// The instruction of a word whose op is 2.
 fn operation(op3: u8, word: u32) -> Instr
     ensures value { result ≡ named_by operations op3 word }
@@ -110,7 +137,11 @@ fn operation(op3: u8, word: u32) -> Instr
         0x06 => alu(AluOp::Orn, false, word),
         0x07 => alu(AluOp::Xnor, false, word),
         0x08 => alu(AluOp::Addx, false, word),
+        0x0a => multiply(false, word),
+        0x0b => multiply(false, word),
         0x0c => alu(AluOp::Subx, false, word),
+        0x0e => divide(false, word),
+        0x0f => divide(false, word),
         0x10 => alu(AluOp::Add, true, word),
         0x11 => alu(AluOp::And, true, word),
         0x12 => alu(AluOp::Or, true, word),
@@ -120,7 +151,11 @@ fn operation(op3: u8, word: u32) -> Instr
         0x16 => alu(AluOp::Orn, true, word),
         0x17 => alu(AluOp::Xnor, true, word),
         0x18 => alu(AluOp::Addx, true, word),
+        0x1a => multiply(true, word),
+        0x1b => multiply(true, word),
         0x1c => alu(AluOp::Subx, true, word),
+        0x1e => divide(true, word),
+        0x1f => divide(true, word),
         0x20 => tagged(TaggedOp::Taddcc, word),
         0x21 => tagged(TaggedOp::Tsubcc, word),
         0x22 => tagged(TaggedOp::Taddcctv, word),

@@ -199,4 +199,19 @@ pub enum Instr {
     Unmodelled(u32),
     /// A word that stands for no instruction.
     Unknown(u32),
+    /// Multiplies `rs1` and `second` into `rd`, an instruction of SPARC Version 8; with `cc` it sets the condition
+    /// codes.
+    Multiply {
+        cc: bool,
+        rd: u8,
+        rs1: u8,
+        second: Second,
+    },
+    /// Divides by `second` into `rd`, an instruction of SPARC Version 8; with `cc` it sets the condition codes.
+    Divide {
+        cc: bool,
+        rd: u8,
+        rs1: u8,
+        second: Second,
+    },
 }

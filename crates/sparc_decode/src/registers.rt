@@ -1,5 +1,5 @@
 ghost use Rattle.std.specs.Prelude.{◌≡◌, ◌+◌, [], ◌∷◌};
-ghost use Rattle.sparc_decode.specs.Register.{bit_of, mask_of, operands, registers_read, registers_written};
+ghost use Rattle.sparc_decode.specs.Register.{bit_of, mask_of, operands, registers_read, registers_written, registers_loaded};
 
 use crate::{Instr, LoadKind, Second, StoreKind};
 
@@ -76,6 +76,8 @@ pub fn reads(i: &Instr) -> u32
             ..
         } => operands(rs1, second),
         Instr::FloatMem { rs1, second, .. } => operands(rs1, second),
+        Instr::Multiply { rs1, second, .. } => operands(rs1, second),
+        Instr::Divide { rs1, second, .. } => operands(rs1, second),
         _ => 0,
     }
 }
@@ -104,6 +106,20 @@ pub fn writes(i: &Instr) -> u32
         } => bit(rd) | bit_after(rd),
         Instr::Load { rd, .. } => bit(rd),
         Instr::Atomic { rd, .. } => bit(rd),
+        Instr::Multiply { rd, .. } => bit(rd),
+        Instr::Divide { rd, .. } => bit(rd),
+        _ => 0,
+    }
+}
+
+/// The registers that an instruction loads from memory: those that a load, LDSTUB or SWAP writes, and else none. Bit r
+/// stands for register r, and r0 never has one.
+pub fn loaded(i: &Instr) -> u32
+    ensures { result ≡ mask_of (registers_loaded i.now) }
+{
+    match i {
+        Instr::Load { .. } => writes(i),
+        Instr::Atomic { .. } => writes(i),
         _ => 0,
     }
 }

@@ -6,14 +6,14 @@ use Rattle.std.specs.Prelude.{slice_set, slice_index}
 use Rattle.sparc_decode.specs.Register.{operands, registers_read}
 use Rattle.sparc_decode.specs.declared.instruction.AluOp.{AluOp}
 use Rattle.sparc_decode.specs.declared.instruction.Instr.{Instr}
-use Rattle.sparc_decode.specs.declared.instruction.Instr.TheVariants.{Call, Unimp, Sethi, Branch, FloatBranch, Alu, Tagged, MulStep, Shift, ReadY, WriteY, FloatOp, FloatCmp, Jmpl, Flush, Save, Restore, Ticc, Load, Store, Atomic, FloatMem, Unmodelled as UnmodelledWord, Unknown}
+use Rattle.sparc_decode.specs.declared.instruction.Instr.TheVariants.{Call, Unimp, Sethi, Branch, FloatBranch, Alu, Tagged, MulStep, Shift, ReadY, WriteY, FloatOp, FloatCmp, Jmpl, Flush, Save, Restore, Ticc, Load, Store, Atomic, FloatMem, Unmodelled as UnmodelledWord, Unknown, Multiply, Divide}
 use Rattle.sparc_decode.specs.declared.instruction.LoadKind.{LoadKind}
 use Rattle.sparc_decode.specs.declared.instruction.LoadKind.TheVariants.{Ld, Ldub, Lduh, Ldd, Ldsb, Ldsh}
 use Rattle.sparc_decode.specs.declared.instruction.Second.{Second}
 use Rattle.sparc_decode.specs.declared.instruction.Second.TheVariants.{Reg, Imm}
 use Rattle.sparc_decode.specs.declared.instruction.StoreKind.{StoreKind}
 use Rattle.sparc_decode.specs.declared.instruction.StoreKind.TheVariants.{St, Stb, Sth, Std}
-use Rattle.sparc_machine.specs.Effect.{Effect, goes_on, with_flags, flags_from, tagged_result, shift_result, is_in_order, in_order, address_in, operated, branched, jumped, is_invalid, turned, loaded, load_effect, is_odd_double_load, write_trap, store_effect, is_odd_double_store, atomic_effect, float_effect, unless_trapped, effect_of}
+use Rattle.sparc_machine.specs.Effect.{Effect, goes_on, with_flags, flags_from, tagged_result, shift_result, freely_flagged, product_of, is_in_order, in_order, address_in, operated, branched, jumped, is_invalid, turned, read_into, load_effect, is_odd_double_load, write_trap, store_effect, is_odd_double_store, atomic_effect, float_effect, unless_trapped, effect_of}
 use Rattle.sparc_machine.specs.Machine.{register_of, with_register, operand_of, going_to, advanced}
 use Rattle.sparc_machine.specs.Memory.{load_size, store_size, atomic_size, is_float_store, float_size}
 use Rattle.sparc_machine.specs.Reads.{with_place, IsElsewhere, AreElsewhere, AgreesBut, EffectsAgreeBut, trapped, done, DependsOnReadsAlone}
@@ -100,7 +100,11 @@ module _ (p v : ℕ) where
   operate m op true rd x y = write_on _ _ rd _ (inl refl)
   operate m op false rd x y = write_on _ _ rd _ (inl refl)
 
-  load : (image : List ℕ) (free : Free) (m : Machine) (kind : LoadKind) (rd a : ℕ) → EffectsAgreeBut p v (loaded image free m kind rd a) (loaded image free (with_place m p v) kind rd a)
+  flagged : (m : Machine) (free : Free) (sets : Bool) → AgreesBut p v (freely_flagged m free sets) (freely_flagged (with_place m p v) free sets)
+  flagged m free true = inl refl
+  flagged m free false = inl refl
+
+  load : (image : List ℕ) (free : Free) (m : Machine) (kind : LoadKind) (rd a : ℕ) → EffectsAgreeBut p v (read_into image free m kind rd a) (read_into image free (with_place m p v) kind rd a)
   load image free m Ld rd a = write_on _ _ rd _ (inl refl)
   load image free m Ldub rd a = write_on _ _ rd _ (inl refl)
   load image free m Lduh rd a = write_on _ _ rd _ (inl refl)
@@ -186,6 +190,11 @@ module _ (p v : ℕ) where
       (by_test (eqb (address_in m rs1 second % float_size kind) 0) _ _ _ _ (went_on m _ (inl refl)) (trapped Misaligned)))
   same image free m (UnmodelledWord these) h = trapped Unmodelled
   same image free m (Unknown these) h = trapped Unmodelled
+  same image free m (Multiply sets rd rs1 second) h =
+      with_words (λ x y. goes_on (with_register (freely_flagged m free sets) rd (product_of x y)))
+      (λ x y. goes_on (with_register (freely_flagged (with_place m p v) free sets) rd (product_of x y))) _ _ _ _
+      (same_first m rs1 second h) (same_second m rs1 second h) (write_on _ _ rd _ (flagged m free sets))
+  same image free m (Divide sets rd rs1 second) h = write_on _ _ rd _ (flagged m free sets)
 
 pub depends_on_reads : DependsOnReadsAlone
 depends_on_reads image free m i place value h = same place value image free m i h

@@ -4,13 +4,15 @@
 use Rattle.std.specs.Prelude.{◌==◌, ℕ, ◌+◌, ◌*◌, ◌/◌, ◌%◌, ◌^◌, ℤ, Bool, true, false, not, ◌&&◌, ◌||◌, List, Option, Some, None, nat_le, if◌then◌else◌, bit_and, bit_or, bit_xor}
 use Rattle.std.specs.Int.{w32, cast_unsigned}
 use Rattle.bt_image.specs.Image.{word, is_code}
-use Rattle.cycle_table.specs.Cycles.{cost_of}
+use Rattle.cycle_table.specs.Class.{has_eight}
+use Rattle.cycle_table.specs.Cycles.{cost_of, pair_of}
 use Rattle.sparc_decode.specs.Instr.{instruction_of}
+use Rattle.sparc_decode.specs.Register.{mask_of, registers_loaded}
 use Rattle.sparc_decode.specs.declared.instruction.AluOp.{AluOp}
 use Rattle.sparc_decode.specs.declared.instruction.AluOp.TheVariants.{Add, And, Or, Xor, Sub, Andn, Orn, Xnor, Addx, Subx}
 use Rattle.sparc_decode.specs.declared.instruction.FloatKind.{FloatKind}
 use Rattle.sparc_decode.specs.declared.instruction.Instr.{Instr}
-use Rattle.sparc_decode.specs.declared.instruction.Instr.TheVariants.{Call, Unimp, Sethi, Branch, FloatBranch, Alu, Tagged, MulStep, Shift, ReadY, WriteY, FloatOp, FloatCmp, Jmpl, Flush, Save, Restore, Ticc, Load, Store, Atomic, FloatMem, Unmodelled as UnmodelledWord, Unknown}
+use Rattle.sparc_decode.specs.declared.instruction.Instr.TheVariants.{Call, Unimp, Sethi, Branch, FloatBranch, Alu, Tagged, MulStep, Shift, ReadY, WriteY, FloatOp, FloatCmp, Jmpl, Flush, Save, Restore, Ticc, Load, Store, Atomic, FloatMem, Unmodelled as UnmodelledWord, Unknown, Multiply, Divide}
 use Rattle.sparc_decode.specs.declared.instruction.LoadKind.{LoadKind}
 use Rattle.sparc_decode.specs.declared.instruction.LoadKind.TheVariants.{Ld, Ldub, Lduh, Ldd, Ldsb, Ldsh}
 use Rattle.sparc_decode.specs.declared.instruction.Second.{Second}
@@ -138,24 +140,33 @@ abbrev pub turned : Machine → ℕ → Trap → ℕ → ℕ → Effect
 turned m window trap rd value =
     if is_invalid m.wim window then Trapped trap else goes_on (with_register (record m { cwp = window }) rd value)
 
+-- the machine with condition codes that are free, where the instruction sets them
+abbrev pub freely_flagged : Machine → Free → Bool → Machine
+freely_flagged m free true = with_flags m (flags_from free.flags)
+freely_flagged m free false = m
+
+-- the low 32 bits of a product, which are the same with sign and without
+abbrev pub product_of : ℕ → ℕ → ℕ
+product_of x y = (x * y) % 2 ^ 32
+
 -- a double word is read into rd and the register behind it
-abbrev pub loaded_double : List ℕ → Free → Machine → ℕ → ℕ → Effect
-loaded_double image free m rd address =
+abbrev pub read_double : List ℕ → Free → Machine → ℕ → ℕ → Effect
+read_double image free m rd address =
     let these = constant_bytes image address 8 in
     goes_on (with_register (with_register m rd (first_word these free.first)) (rd + 1) (second_word these free.second))
 
 -- a load of less than a double word writes what it reads, with zeros or its sign above it
-abbrev pub loaded_one : List ℕ → Free → Machine → LoadKind → ℕ → ℕ → Effect
-loaded_one image free m kind rd address =
+abbrev pub read_one : List ℕ → Free → Machine → LoadKind → ℕ → ℕ → Effect
+read_one image free m kind rd address =
     goes_on (with_register m rd (extended kind (read_number (constant_bytes image address (load_size kind)) (load_size kind) free.first)))
 
-abbrev pub loaded : List ℕ → Free → Machine → LoadKind → ℕ → ℕ → Effect
-loaded image free m Ld rd address = loaded_one image free m Ld rd address
-loaded image free m Ldub rd address = loaded_one image free m Ldub rd address
-loaded image free m Lduh rd address = loaded_one image free m Lduh rd address
-loaded image free m Ldd rd address = loaded_double image free m rd address
-loaded image free m Ldsb rd address = loaded_one image free m Ldsb rd address
-loaded image free m Ldsh rd address = loaded_one image free m Ldsh rd address
+abbrev pub read_into : List ℕ → Free → Machine → LoadKind → ℕ → ℕ → Effect
+read_into image free m Ld rd address = read_one image free m Ld rd address
+read_into image free m Ldub rd address = read_one image free m Ldub rd address
+read_into image free m Lduh rd address = read_one image free m Lduh rd address
+read_into image free m Ldd rd address = read_double image free m rd address
+read_into image free m Ldsb rd address = read_one image free m Ldsb rd address
+read_into image free m Ldsh rd address = read_one image free m Ldsh rd address
 
 -- a double word needs an even register
 abbrev pub is_odd_double_load : LoadKind → ℕ → Bool
@@ -178,7 +189,7 @@ branch_effect m annul cond taken disp = in_order m (branched m annul (cond == 8)
 abbrev pub load_effect : List ℕ → Free → Machine → LoadKind → ℕ → ℕ → Effect
 load_effect image free m kind rd address =
     if is_odd_double_load kind rd then Trapped Unmodelled
-    else (if address % load_size kind == 0 then loaded image free m kind rd address else Trapped Misaligned)
+    else (if address % load_size kind == 0 then read_into image free m kind rd address else Trapped Misaligned)
 
 -- the trap that a write of so many bytes is, if it is one: it isn't aligned, or touches a read-only byte
 abbrev pub write_trap : List ℕ → ℕ → ℕ → Option Trap
@@ -235,20 +246,46 @@ effect_of image free m (Atomic swap rd rs1 second) = atomic_effect image free m 
 effect_of image free m (FloatMem kind rd rs1 second) = float_effect image m kind (address_in m rs1 second)
 effect_of image free m (UnmodelledWord these) = Trapped Unmodelled
 effect_of image free m (Unknown these) = Trapped Unmodelled
+effect_of image free m (Multiply cc rd rs1 second) =
+    goes_on (with_register (freely_flagged m free cc) rd (product_of (register_of m rs1) (operand_of m second)))
+effect_of image free m (Divide cc rd rs1 second) = goes_on (with_register (freely_flagged m free cc) rd free.first)
+
+-- whether an instruction is modelled where a table is of version 2 or isn't: multiplications and divisions only there
+abbrev pub is_modelled : Bool → Instr → Bool
+is_modelled eight (Multiply cc rd rs1 second) = eight
+is_modelled eight (Divide cc rd rs1 second) = eight
+is_modelled eight _ = true
 
 -- the word of code at an address
 abbrev pub code_word : List ℕ → ℕ → Option ℕ
 code_word image address = if is_code image address then word image address else None
 
--- what a step over an image with a table of cycles comes to, where it finds these free values: the effect of the
--- word at the program counter, at the cost of its instruction and of one that it annuls
-abbrev pub paid : List ℕ → Instr → Effect → Outcome
-paid cycles instruction (Done m annulled) = Stepped (charged m (cost_of cycles instruction annulled))
-paid cycles instruction (Trapped trap) = Stopped trap
+-- what an instruction costs: its class, what it annuls, and what it reads right behind its load; before it these
+-- registers were loaded
+abbrev pub step_cost : List ℕ → ℕ → Instr → Bool → ℕ
+step_cost cycles before instruction annulled = cost_of cycles instruction annulled + pair_of cycles before instruction
 
+-- an effect at its cost
+abbrev pub paid : List ℕ → ℕ → Instr → Effect → Outcome
+paid cycles before instruction (Done m annulled) =
+    Stepped (charged m (step_cost cycles before instruction annulled) (mask_of (registers_loaded instruction)))
+paid cycles before instruction (Trapped trap) = Stopped trap
+
+-- an outcome, or a trap where the instruction isn't modelled
+abbrev pub modelled : Bool → Outcome → Outcome
+modelled true outcome = outcome
+modelled false outcome = Stopped Unmodelled
+
+-- what the step of an instruction comes to
+abbrev pub performed : List ℕ → List ℕ → Free → Machine → Instr → Outcome
+performed image cycles free m instruction =
+    modelled (is_modelled (has_eight cycles) instruction) (paid cycles m.loaded instruction (effect_of image free m instruction))
+
+-- what a step over an image with a table of cycles comes to, where it finds these free values: the effect of the
+-- word at the program counter, at its cost
 abbrev pub stepped_from : List ℕ → List ℕ → Free → Machine → Option ℕ → Outcome
 stepped_from image cycles free m None = Stopped Fetch
-stepped_from image cycles free m (Some these) = paid cycles (instruction_of these) (effect_of image free m (instruction_of these))
+stepped_from image cycles free m (Some these) = performed image cycles free m (instruction_of these)
 
 abbrev pub step_of : List ℕ → List ℕ → Free → Machine → Outcome
 step_of image cycles free m = stepped_from image cycles free m (code_word image m.pc)

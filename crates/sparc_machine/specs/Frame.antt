@@ -40,12 +40,12 @@ pub record BeginsAt (entry : ℕ) (m : Machine) : Type 0 where
   pub npc : m.npc ≡ (entry + 4) % 2 ^ 32
   pub mask : (window : ℕ) × (window < 8) × (m.wim ≡ 2 ^ window) × (window ≢ m.cwp)
 
--- an activation of a subprogram: its address, the address of the call, and the window and the cycles at its start
+-- an activation of a subprogram: its address, the address of the call, and the machine at its push, whose window and
+-- cycles are those at its start
 pub record Frame : Type 0 where
   pub sub : ℕ
   pub caller : ℕ
-  pub cwp : ℕ
-  pub cycles : ℕ
+  pub start : Machine
 
 -- what a step does to the stack of frames once its delay instruction is done
 pub data Transfer : Type 0 where
@@ -61,10 +61,11 @@ lets_call (Some (Save rd rs1 second)) = false
 lets_call (Some (Restore rd rs1 second)) = false
 lets_call (Some delay) = leaves_link delay
 
--- a jump to eight bytes behind r15 or r31 that leaves no address is a return
+-- a jump to eight or twelve bytes behind r15 or r31 that leaves no address is a return; the latter skips the word behind
+-- the call's delay instruction
 abbrev pub is_return : ℕ → ℕ → Second → Bool
 is_return rd rs1 (Reg r) = false
-is_return rd rs1 (Imm n) = (rd == 0) && (int_eq n (pos 8) && ((rs1 == 15) || (rs1 == 31)))
+is_return rd rs1 (Imm n) = (rd == 0) && ((int_eq n (pos 8) || int_eq n (pos 12)) && ((rs1 == 15) || (rs1 == 31)))
 
 abbrev pub transfer_by : Machine → Instr → Option Instr → Transfer
 transfer_by m (Call disp) delay = if lets_call delay then Calls ((m.pc + disp * 4) % 2 ^ 32) m.pc else Stays
@@ -84,24 +85,51 @@ instruction_at image address = option_map instruction_of (word image address)
 abbrev pub transfer_of : List ℕ → Machine → Transfer
 transfer_of image m = transfer_from m (instruction_at image m.pc) (instruction_at image ((m.pc + 4) % 2 ^ 32))
 
--- the stack, its top first, at the machine behind the delay instruction of a transfer
+-- the stack, its top first, at the machine behind the delay instruction of a transfer. Once the frame of the root is
+-- popped the stack stays empty: a call then pushes nothing
 abbrev pub frames_after : Transfer → Machine → List Frame → List Frame
 frames_after Stays m frames = frames
-frames_after (Calls target address) m frames = record { sub = target; caller = address; cwp = m.cwp; cycles = m.cycles } ∷ frames
+frames_after (Calls target address) m [] = []
+frames_after (Calls target address) m (top ∷ rest) = record { sub = target; caller = address; start = m } ∷ top ∷ rest
 frames_after Returns m frames = drop 1 frames
 
--- the stack at the machine at a place of a run; these are the frames at the run's first machine, and the step from
--- it is the delay step of the transfer that is due
-abbrev pub frames_from : List ℕ → Transfer → List Frame → List Machine → ℕ → List Frame
-frames_from image due frames [] i = frames
-frames_from image due frames (m ∷ []) i = frames
-frames_from image due frames (m ∷ next ∷ rest) zero = frames
-frames_from image due frames (m ∷ next ∷ rest) (suc i) = frames_from image (transfer_of image m) (frames_after due next frames) (next ∷ rest) i
+-- where a run has come to: the machine, what its step does to the stack, for it may be the delay step of a transfer, and
+-- the stack of frames
+pub record Config : Type 0 where
+  pub machine : Machine
+  pub due : Transfer
+  pub frames : List Frame
+
+-- and one step further, where that step ends in this machine
+abbrev pub config_after : List ℕ → Config → Machine → Config
+config_after image c next = record { machine = next; due = transfer_of image c.machine; frames = frames_after c.due next c.frames }
+
+-- and at a place of the machines that follow; past their end it is the last
+abbrev pub config_from : List ℕ → Config → List Machine → ℕ → Config
+config_from image c rest zero = c
+config_from image c [] (suc i) = c
+config_from image c (next ∷ rest) (suc i) = config_from image (config_after image c next) rest i
 
 -- the frame of the subprogram that a run begins in
 abbrev pub root_frame : Machine → Frame
-root_frame m = record { sub = m.pc; caller = register_of m 15; cwp = m.cwp; cycles = m.cycles }
+root_frame m = record { sub = m.pc; caller = register_of m 15; start = m }
+
+-- where a run begins
+abbrev pub first_config : Machine → Config
+first_config first = record { machine = first; due = Stays; frames = root_frame first ∷ [] }
+
+-- where a run is at a place, which is the number of a machine from its first on
+abbrev pub config_at : List ℕ → Machine → List Machine → ℕ → Config
+config_at image first rest i = config_from image (first_config first) rest i
+
+-- the machine at each place of a run
+abbrev pub machine_at : List ℕ → Machine → List Machine → ℕ → Machine
+machine_at image first rest i = (config_at image first rest i).machine
+
+-- the transfer that is due at each place of a run
+abbrev pub due_at : List ℕ → Machine → List Machine → ℕ → Transfer
+due_at image first rest i = (config_at image first rest i).due
 
 -- the stack at each place of a run
 abbrev pub frames_at : List ℕ → Machine → List Machine → ℕ → List Frame
-frames_at image first rest i = frames_from image Stays (root_frame first ∷ []) (first ∷ rest) i
+frames_at image first rest i = (config_at image first rest i).frames

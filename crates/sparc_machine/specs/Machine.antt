@@ -27,9 +27,9 @@ going_to m next = record m { pc = m.npc; npc = next }
 abbrev pub advanced : Machine → Machine
 advanced m = going_to m ((m.npc + 4) % 2 ^ 32)
 
--- the machine that has spent so many cycles more
-abbrev pub charged : Machine → ℕ → Machine
-charged m cost = record m { cycles = m.cycles + cost }
+-- the machine that has spent so many cycles more on a step that loaded these registers, which are a set as bits
+abbrev pub charged : Machine → ℕ → ℕ → Machine
+charged m cost these = record m { cycles = m.cycles + cost; loaded = these }
 
 -- the numbers of a machine are within their types; cycles are counted without limit
 pub record IsMachine (m : Machine) : Type 0 where
@@ -39,3 +39,4 @@ pub record IsMachine (m : Machine) : Type 0 where
   pub npc : m.npc < 2 ^ 32
   pub window : m.cwp < 8
   pub mask : m.wim < 2 ^ 8
+  pub loaded : m.loaded < 2 ^ 32

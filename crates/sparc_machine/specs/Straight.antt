@@ -1,13 +1,12 @@
 -- Straight code: instructions that only compute, and a return with its delay instruction at the end.
 use Rattle.std.specs.Prelude.{◌==◌, ◌≡◌, ◌≢◌, ℕ, zero, suc, ◌+◌, ◌-◌, ◌*◌, ◌^◌, ◌<◌, ◌≤◌, Bool, true, false, List, Option, Some, None, bit_and}
 use Rattle.std.specs.Option.{option_map}
-use Rattle.cycle_table.specs.Cycles.{cost_of}
 use Rattle.sparc_decode.specs.Instr.{instruction_of}
-use Rattle.sparc_decode.specs.Register.{mask_of, registers_written}
+use Rattle.sparc_decode.specs.Register.{mask_of, registers_written, registers_loaded}
 use Rattle.sparc_decode.specs.declared.instruction.AluOp.TheVariants.{Add, Or}
 use Rattle.sparc_decode.specs.declared.instruction.Instr.{Instr}
 use Rattle.sparc_decode.specs.declared.instruction.Instr.TheVariants.{Sethi, Alu}
-use Rattle.sparc_machine.specs.Effect.{code_word}
+use Rattle.sparc_machine.specs.Effect.{code_word, step_cost}
 
 -- the word of the return of a leaf: a jump to eight bytes behind the call
 abbrev pub return_word : ℕ
@@ -43,15 +42,31 @@ pub record IsStraight (image : List ℕ) (entry count : ℕ) : Type 0 where
   pub compute : (i : ℕ) → i < count → i + 2 ≢ count → passes only_computes (code_instruction image (entry + 4 * i)) ≡ true
   pub link : (i : ℕ) → i + 2 < count → passes leaves_link (code_instruction image (entry + 4 * i)) ≡ true
 
--- what an instruction costs that annuls nothing, where there is one
-abbrev pub cost_alone : List ℕ → Option Instr → ℕ
-cost_alone costs None = 0
-cost_alone costs (Some instruction) = cost_of costs instruction false
+-- every register, as a set of bits: a run may begin behind a load of any
+abbrev pub all_registers : ℕ
+all_registers = 0xffffffff
+
+-- the registers that an instruction loads, where there is one, as a set of bits
+abbrev pub loads : Option Instr → ℕ
+loads None = 0
+loads (Some instruction) = mask_of (registers_loaded instruction)
+
+-- the registers that may be loaded right before the word at a place from the entry on: by the word in front of it, and
+-- in front of the first every register
+abbrev pub loaded_before : List ℕ → ℕ → ℕ → ℕ
+loaded_before image entry zero = all_registers
+loaded_before image entry (suc i) = loads (code_instruction image (entry + 4 * i))
+
+-- what an instruction costs that annuls nothing, where there is one, behind a load of these registers
+abbrev pub cost_alone : List ℕ → ℕ → Option Instr → ℕ
+cost_alone costs before None = 0
+cost_alone costs before (Some instruction) = step_cost costs before instruction false
 
 -- what so many words of code cost, from the entry on and each executed once
 abbrev pub code_cost : List ℕ → List ℕ → ℕ → ℕ → ℕ
 code_cost image costs entry zero = 0
-code_cost image costs entry (suc n) = code_cost image costs entry n + cost_alone costs (code_instruction image (entry + 4 * n))
+code_cost image costs entry (suc n) =
+    code_cost image costs entry n + cost_alone costs (loaded_before image entry n) (code_instruction image (entry + 4 * n))
 
 -- where code is straight from an entry on, the number of its words is one
 abbrev pub StraightCodeIsOne : Type 0
@@ -74,4 +89,5 @@ pub record Leaves (image costs : List ℕ) (entry i spent : ℕ) : Type 0 where
   pub within : entry + 4 * (i + 2) ≤ 2 ^ 32
   pub leave : code_word image (entry + 4 * i) ≡ Some return_word
   pub delay : passes only_computes (code_instruction image (entry + 4 * (i + 1))) ≡ true
-  pub cost : spent ≡ cost_alone costs (code_instruction image (entry + 4 * i)) + cost_alone costs (code_instruction image (entry + 4 * (i + 1)))
+  pub cost : spent ≡ cost_alone costs (loaded_before image entry i) (code_instruction image (entry + 4 * i))
+      + cost_alone costs (loaded_before image entry (suc i)) (code_instruction image (entry + 4 * (i + 1)))

@@ -1,13 +1,13 @@
 //! What an instruction does to a machine over an image.
 ghost use Rattle.std.specs.Prelude.{◌≡◌, ◌≢◌, ◌<◌, ◌≤◌, ◌%◌, ◌^◌, false, IfErr, IfOk, OnErr, OnOk};
 ghost use Rattle.sparc_decode.specs.Instr.{InRange};
-ghost use Rattle.sparc_machine.specs.Effect.{Done, Trapped, effect_of, in_order, called, branch_effect, jumped, loaded, load_effect, write_trap, store_effect, atomic_effect, float_effect, code_word, step_of};
+ghost use Rattle.sparc_machine.specs.Effect.{Done, Trapped, effect_of, in_order, called, branch_effect, jumped, read_into, load_effect, write_trap, store_effect, atomic_effect, float_effect, is_modelled, code_word, step_of};
 ghost use Rattle.sparc_machine.specs.Outcome.{Stepped, Stopped};
 
 use crate::{Free, Machine, Trap, executing, memory};
 use bt_image::Image;
 use cycle_table::Cycles;
-use sparc_decode::{FloatKind, Instr, LoadKind, StoreKind, decode};
+use sparc_decode::{FloatKind, Instr, LoadKind, StoreKind, decode, loaded};
 
 /// A call of an address.
 fn call(m: &mut Machine, target: u32) -> Result<bool, Trap>
@@ -56,7 +56,7 @@ fn load_one(m: &mut Machine, image: &Image, free: &Free, kind: LoadKind, rd: u8,
     requires window { m.old.cwp < 8 }
     requires register { rd < 32 }
     requires kind { kind ≢ LoadKind.Ldd }
-    ensures { loaded image.now free.now m.old kind rd address ≡ Done m.new false }
+    ensures { read_into image.now free.now m.old kind rd address ≡ Done m.new false }
 {
     m.set_register(rd, memory::load(image, kind, address, free.first));
     m.advance();
@@ -66,7 +66,7 @@ fn load_one(m: &mut Machine, image: &Image, free: &Free, kind: LoadKind, rd: u8,
 fn load_double(m: &mut Machine, image: &Image, free: &Free, rd: u8, address: u32)
     requires window { m.old.cwp < 8 }
     requires register { rd < 31 }
-    ensures { loaded image.now free.now m.old LoadKind.Ldd rd address ≡ Done m.new false }
+    ensures { read_into image.now free.now m.old LoadKind.Ldd rd address ≡ Done m.new false }
 {
     let (first, second) = memory::read_double(image, address, free.first, free.second);
     m.set_register(rd, first);
@@ -338,6 +338,31 @@ pub fn execute(
         }
         Instr::Unmodelled(_) => Err(Trap::Unmodelled),
         Instr::Unknown(_) => Err(Trap::Unmodelled),
+        Instr::Multiply {
+            cc,
+            rd,
+            rs1,
+            second,
+        } => {
+            let product = m.register(rs1).wrapping_mul(m.operand(second));
+            executing::write_flagged(m, free, cc, rd, product);
+            Ok(false)
+        }
+        Instr::Divide { cc, rd, .. } => {
+            executing::write_flagged(m, free, cc, rd, free.first);
+            Ok(false)
+        }
+    }
+}
+
+/// Whether an instruction is modelled where a table is of version 2 or isn't: multiplications and divisions only there.
+fn is_modelled(eight: bool, instruction: &Instr) -> bool
+    ensures { result ≡ is_modelled eight instruction.now }
+{
+    match instruction {
+        Instr::Multiply { .. } => eight,
+        Instr::Divide { .. } => eight,
+        _ => true,
     }
 }
 
@@ -369,8 +394,12 @@ pub fn code_word(image: &Image, address: u32) -> Option<u32>
 
 /// One step over an image, at the costs of a table of cycles, where it finds these free values.
 ///
+/// The step costs what the table says of its instruction and of one that it annuls, and what it says of an instruction
+/// that reads a register which the step before loaded.
+///
 /// A trap leaves the machine as it was: Fetch where no word of code stands at the program counter, Unmodelled
-/// for a word whose step isn't modelled and for a transfer in a delay slot, Misaligned for a jump or an access
+/// for a word whose step isn't modelled, for a multiplication or a division with a table of version 1, and for a
+/// transfer in a delay slot, Misaligned for a jump or an access
 /// that isn't aligned, ReadOnlyStore for a write that touches a read-only byte, Overflow and Underflow for SAVE
 /// and RESTORE to an invalid window.
 pub fn step(m: &mut Machine, image: &Image, cycles: &Cycles, free: Free) -> Result<(), Trap>
@@ -386,8 +415,13 @@ pub fn step(m: &mut Machine, image: &Image, cycles: &Cycles, free: Free) -> Resu
         None => Err(Trap::Fetch),
         Some(word) => {
             let instruction = decode(word);
+            if !is_modelled(cycles.eight(), &instruction) {
+                return Err(Trap::Unmodelled);
+            }
+            let pair = cycles.pair(m.loaded, &instruction);
             let annulled = perform(m, image, &free, instruction)?;
-            m.cycles = before + u64::from(cycles.cost(&instruction, annulled));
+            m.cycles = before + u64::from(cycles.cost(&instruction, annulled) + pair);
+            m.loaded = loaded(&instruction);
             Ok(())
         }
     }

@@ -3,7 +3,7 @@ ghost use Rattle.std.specs.Prelude.{◌≡◌, ◌<◌, false, IfErr, IfOk, OnEr
 ghost use Rattle.sparc_decode.specs.Instr.{InRange, IsOperand};
 ghost use Rattle.sparc_machine.specs.Machine.{advanced, with_register};
 ghost use Rattle.word_ops.specs.Word.{complement_of};
-ghost use Rattle.sparc_machine.specs.Effect.{Done, Trapped, flags_in, with_flags, flags_from, target_of, address_in, alu_result, alu_flags, operated, tagged_result, shift_result, branched, float_taken, jumped, is_in_order, is_invalid, turned};
+ghost use Rattle.sparc_machine.specs.Effect.{Done, Trapped, flags_in, with_flags, flags_from, target_of, address_in, alu_result, alu_flags, operated, tagged_result, shift_result, freely_flagged, branched, float_taken, jumped, is_in_order, is_invalid, turned};
 
 use crate::{Free, Machine, Trap};
 use sparc_decode::{AluOp, Second, ShiftOp, TaggedOp};
@@ -132,6 +132,18 @@ pub fn write(m: &mut Machine, rd: u8, value: u32)
 {
     m.set_register(rd, value);
     m.advance();
+}
+
+/// Writes a register and, with `cc`, condition codes that are free, and goes on to the instruction behind this one.
+pub fn write_flagged(m: &mut Machine, free: &Free, cc: bool, rd: u8, value: u32)
+    requires window { m.old.cwp < 8 }
+    requires register { rd < 32 }
+    ensures { m.new ≡ advanced (with_register (freely_flagged m.old free.now cc) rd value) }
+{
+    if cc {
+        set_flags(m, free_flags(free.flags));
+    }
+    write(m, rd, value);
 }
 
 /// The result of a tagged operation.

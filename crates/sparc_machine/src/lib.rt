@@ -9,8 +9,6 @@ mod laws;
 mod machine;
 mod memory;
 mod straight;
-#[cfg(test)]
-mod tests;
 mod trap;
 
 pub use effects::step;

@@ -26,6 +26,8 @@ pub struct Machine {
     pub wim: u8,
     /// The cycles spent so far.
     pub cycles: u64,
+    /// The registers that the step before loaded from memory: bit r stands for register r.
+    pub loaded: u32,
 }
 
 /// The place in `regs` of register `r` in the window `cwp`: the globals first, then the windows, each of

@@ -17,7 +17,7 @@ use Rattle.sparc_decode.specs.declared.instruction.AluOp.TheVariants.{Add, And, 
 use Rattle.sparc_decode.specs.declared.instruction.FloatKind.{FloatKind}
 use Rattle.sparc_decode.specs.declared.instruction.FloatKind.TheVariants.{Ldf, Ldfsr, Lddf, Stf, Stfsr, Stdf}
 use Rattle.sparc_decode.specs.declared.instruction.Instr.{Instr}
-use Rattle.sparc_decode.specs.declared.instruction.Instr.TheVariants.{Call, Unimp, Sethi, Branch, FloatBranch, Alu, Tagged, MulStep, Shift, ReadY, WriteY, FloatOp, FloatCmp, Jmpl, Flush, Save, Restore, Ticc, Load, Store, Atomic, FloatMem, Unmodelled, Unknown}
+use Rattle.sparc_decode.specs.declared.instruction.Instr.TheVariants.{Call, Unimp, Sethi, Branch, FloatBranch, Alu, Tagged, MulStep, Shift, ReadY, WriteY, FloatOp, FloatCmp, Jmpl, Flush, Save, Restore, Ticc, Load, Store, Atomic, FloatMem, Unmodelled, Unknown, Multiply, Divide}
 use Rattle.sparc_decode.specs.declared.instruction.LoadKind.{LoadKind}
 use Rattle.sparc_decode.specs.declared.instruction.LoadKind.TheVariants.{Ld, Ldub, Lduh, Ldd, Ldsb, Ldsh}
 use Rattle.sparc_decode.specs.declared.instruction.Second.{Second}
@@ -198,39 +198,41 @@ float_operands_plain Stdf rd rs1 second r h = stored_plain rs1 second (float_reg
 word_plain : (word : ℕ) → IsPlain (word_text word)
 word_plain word = both (literal (codes ".word ") refl) (hexadecimal_plain word)
 
-text_plain : (at : ℕ) (i : Instr) → InRange i → IsPlain (text_of at i)
-text_plain at (Call disp) h = both (literal (codes "call ") refl) (hex8 (call_target at disp))
-text_plain at (Unimp imm) h = both (literal (codes "unimp ") refl) (hexadecimal_plain imm)
-text_plain at (Sethi rd imm) h = both (literal (codes "sethi ") refl) (both (hexadecimal_plain imm) (both comma (register_plain rd)))
-text_plain at (Branch annul cond disp) h = both (literal (codes "b") refl) (both (condition_plain cond) (branching_plain annul (branch_target at disp)))
-text_plain at (FloatBranch annul cond disp) h =
+text_plain : (at these : ℕ) (i : Instr) → InRange i → IsPlain (text_of at these i)
+text_plain at these (Call disp) h = both (literal (codes "call ") refl) (hex8 (call_target at disp))
+text_plain at these (Unimp imm) h = both (literal (codes "unimp ") refl) (hexadecimal_plain imm)
+text_plain at these (Sethi rd imm) h = both (literal (codes "sethi ") refl) (both (hexadecimal_plain imm) (both comma (register_plain rd)))
+text_plain at these (Branch annul cond disp) h = both (literal (codes "b") refl) (both (condition_plain cond) (branching_plain annul (branch_target at disp)))
+text_plain at these (FloatBranch annul cond disp) h =
     both (literal (codes "fb") refl) (both (decimal_plain cond (let small = h.0 in omega arith)) (branching_plain annul (branch_target at disp)))
-text_plain at (Alu op cc rd rs1 second) h =
+text_plain at these (Alu op cc rd rs1 second) h =
     both (alu_plain op) (both (either cc (literal (codes "cc") refl) (literal [] refl)) (operands_plain rd rs1 second h.2))
-text_plain at (Tagged op rd rs1 second) h = both (tagged_plain op) (operands_plain rd rs1 second h.2)
-text_plain at (MulStep rd rs1 second) h = both (literal (codes "mulscc") refl) (operands_plain rd rs1 second h.2)
-text_plain at (Shift op rd rs1 second) h = both (shift_plain op) (operands_plain rd rs1 second h.2)
-text_plain at (ReadY rd) h = both (literal (codes "rdy ") refl) (register_plain rd)
-text_plain at (WriteY rs1 second) h = both (literal (codes "wry ") refl) (both (register_plain rs1) (both comma (operand_plain second h.1)))
-text_plain at (FloatOp word) h = word_plain word
-text_plain at (FloatCmp word) h = word_plain word
-text_plain at (Jmpl rd rs1 second) h =
+text_plain at these (Tagged op rd rs1 second) h = both (tagged_plain op) (operands_plain rd rs1 second h.2)
+text_plain at these (MulStep rd rs1 second) h = both (literal (codes "mulscc") refl) (operands_plain rd rs1 second h.2)
+text_plain at these (Shift op rd rs1 second) h = both (shift_plain op) (operands_plain rd rs1 second h.2)
+text_plain at these (ReadY rd) h = both (literal (codes "rdy ") refl) (register_plain rd)
+text_plain at these (WriteY rs1 second) h = both (literal (codes "wry ") refl) (both (register_plain rs1) (both comma (operand_plain second h.1)))
+text_plain at these (FloatOp word) h = word_plain word
+text_plain at these (FloatCmp word) h = word_plain word
+text_plain at these (Jmpl rd rs1 second) h =
     both (literal (codes "jmpl ") refl) (both (address_plain rs1 second h.2) (both comma (register_plain rd)))
-text_plain at (Flush rs1 second) h = both (literal (codes "iflush ") refl) (address_plain rs1 second h.1)
-text_plain at (Save rd rs1 second) h = both (literal (codes "save") refl) (operands_plain rd rs1 second h.2)
-text_plain at (Restore rd rs1 second) h = both (literal (codes "restore") refl) (operands_plain rd rs1 second h.2)
-text_plain at (Ticc cond rs1 second) h = both (literal (codes "t") refl) (both (condition_plain cond) (both space (address_plain rs1 second h.2)))
-text_plain at (Load kind rd rs1 second) h = both (load_plain kind) (loaded_plain rs1 second (register_plain rd) h.2)
-text_plain at (Store kind rd rs1 second) h = both (store_plain kind) (stored_plain rs1 second (register_plain rd) h.2)
-text_plain at (Atomic swap rd rs1 second) h =
+text_plain at these (Flush rs1 second) h = both (literal (codes "iflush ") refl) (address_plain rs1 second h.1)
+text_plain at these (Save rd rs1 second) h = both (literal (codes "save") refl) (operands_plain rd rs1 second h.2)
+text_plain at these (Restore rd rs1 second) h = both (literal (codes "restore") refl) (operands_plain rd rs1 second h.2)
+text_plain at these (Ticc cond rs1 second) h = both (literal (codes "t") refl) (both (condition_plain cond) (both space (address_plain rs1 second h.2)))
+text_plain at these (Load kind rd rs1 second) h = both (load_plain kind) (loaded_plain rs1 second (register_plain rd) h.2)
+text_plain at these (Store kind rd rs1 second) h = both (store_plain kind) (stored_plain rs1 second (register_plain rd) h.2)
+text_plain at these (Atomic swap rd rs1 second) h =
     both (either swap (literal (codes "swap") refl) (literal (codes "ldstub") refl)) (loaded_plain rs1 second (register_plain rd) h.2)
-text_plain at (FloatMem kind rd rs1 second) h = both (float_plain kind) (float_operands_plain kind rd rs1 second h.0 h.2)
-text_plain at (Unmodelled word) h = word_plain word
-text_plain at (Unknown word) h = word_plain word
+text_plain at these (FloatMem kind rd rs1 second) h = both (float_plain kind) (float_operands_plain kind rd rs1 second h.0 h.2)
+text_plain at these (Unmodelled word) h = word_plain word
+text_plain at these (Unknown word) h = word_plain word
+text_plain at these (Multiply cc rd rs1 second) h = word_plain these
+text_plain at these (Divide cc rd rs1 second) h = word_plain these
 
 line_plain : (at word : ℕ) → InRange (instruction_of word) → IsPlain (line_of at word)
 unfolding line_of
-line_plain at word h = both (hex8 at) (both space (both (hex8 word) (both space (text_plain at (instruction_of word) h))))
+line_plain at word h = both (hex8 at) (both space (both (hex8 word) (both space (text_plain at word (instruction_of word) h))))
 
 -- the line of a word is text
 pub line_utf8 : (at word : ℕ) → InRange (instruction_of word) → IsUtf8 (line_of at word)

@@ -9,7 +9,7 @@ use Rattle.sparc_text.specs.Text.{text_of}
 
 -- the line of a word at an address, without its end: the address, the word, and the text of its instruction
 unfoldable pub line_of : ℕ → ℕ → List ℕ
-line_of at word = hex8_text at ++ (codes " " ++ (hex8_text word ++ (codes " " ++ text_of at (instruction_of word))))
+line_of at word = hex8_text at ++ (codes " " ++ (hex8_text word ++ (codes " " ++ text_of at word (instruction_of word))))
 
 -- the whole line at an address of an image; each word of code is one of the image, and an address without a word
 -- has none

@@ -5,7 +5,7 @@ use Rattle.std.specs.Int.{w32, cast_unsigned}
 use Rattle.sparc_decode.specs.declared.instruction.FloatKind.{FloatKind}
 use Rattle.sparc_decode.specs.declared.instruction.FloatKind.TheVariants.{Ldf, Ldfsr, Lddf, Stf, Stfsr, Stdf}
 use Rattle.sparc_decode.specs.declared.instruction.Instr.{Instr}
-use Rattle.sparc_decode.specs.declared.instruction.Instr.TheVariants.{Call, Unimp, Sethi, Branch, FloatBranch, Alu, Tagged, MulStep, Shift, ReadY, WriteY, FloatOp, FloatCmp, Jmpl, Flush, Save, Restore, Ticc, Load, Store, Atomic, FloatMem, Unmodelled, Unknown}
+use Rattle.sparc_decode.specs.declared.instruction.Instr.TheVariants.{Call, Unimp, Sethi, Branch, FloatBranch, Alu, Tagged, MulStep, Shift, ReadY, WriteY, FloatOp, FloatCmp, Jmpl, Flush, Save, Restore, Ticc, Load, Store, Atomic, FloatMem, Unmodelled, Unknown, Multiply, Divide}
 use Rattle.sparc_decode.specs.declared.instruction.Second.{Second}
 use Rattle.sparc_text.specs.Names.{hex8_text, register, float_register, operand, address, condition, alu_name, tagged_name, shift_name, load_name, store_name, float_name}
 
@@ -65,29 +65,32 @@ float_operands Stdf rd rs1 second = stored (float_register rd) rs1 second
 abbrev pub word_text : ℕ → List ℕ
 word_text word = codes ".word " ++ hexadecimal word
 
--- the text of an instruction that stands at an address
-abbrev pub text_of : ℕ → Instr → List ℕ
-text_of at (Call disp) = call_text (call_target at disp)
-text_of at (Unimp imm) = codes "unimp " ++ hexadecimal imm
-text_of at (Sethi rd imm) = codes "sethi " ++ (hexadecimal imm ++ (codes ", " ++ register rd))
-text_of at (Branch annul cond disp) = branch_text annul cond (branch_target at disp)
-text_of at (FloatBranch annul cond disp) = float_branch_text annul cond (branch_target at disp)
-text_of at (Alu op cc rd rs1 second) = alu_name op ++ ((if cc then codes "cc" else []) ++ operands rd rs1 second)
-text_of at (Tagged op rd rs1 second) = tagged_name op ++ operands rd rs1 second
-text_of at (MulStep rd rs1 second) = codes "mulscc" ++ operands rd rs1 second
-text_of at (Shift op rd rs1 second) = shift_name op ++ operands rd rs1 second
-text_of at (ReadY rd) = codes "rdy " ++ register rd
-text_of at (WriteY rs1 second) = codes "wry " ++ (register rs1 ++ (codes ", " ++ operand second))
-text_of at (FloatOp word) = word_text word
-text_of at (FloatCmp word) = word_text word
-text_of at (Jmpl rd rs1 second) = codes "jmpl " ++ (address rs1 second ++ (codes ", " ++ register rd))
-text_of at (Flush rs1 second) = codes "iflush " ++ address rs1 second
-text_of at (Save rd rs1 second) = codes "save" ++ operands rd rs1 second
-text_of at (Restore rd rs1 second) = codes "restore" ++ operands rd rs1 second
-text_of at (Ticc cond rs1 second) = codes "t" ++ (condition cond ++ (codes " " ++ address rs1 second))
-text_of at (Load kind rd rs1 second) = load_name kind ++ loaded (register rd) rs1 second
-text_of at (Store kind rd rs1 second) = store_name kind ++ stored (register rd) rs1 second
-text_of at (Atomic swap rd rs1 second) = (if swap then codes "swap" else codes "ldstub") ++ loaded (register rd) rs1 second
-text_of at (FloatMem kind rd rs1 second) = float_name kind ++ float_operands kind rd rs1 second
-text_of at (Unmodelled word) = word_text word
-text_of at (Unknown word) = word_text word
+-- the text of an instruction that stands at an address, for which this word stands there; the multiplications and
+-- divisions of SPARC Version 8 aren't written by their names
+abbrev pub text_of : ℕ → ℕ → Instr → List ℕ
+text_of at these (Call disp) = call_text (call_target at disp)
+text_of at these (Unimp imm) = codes "unimp " ++ hexadecimal imm
+text_of at these (Sethi rd imm) = codes "sethi " ++ (hexadecimal imm ++ (codes ", " ++ register rd))
+text_of at these (Branch annul cond disp) = branch_text annul cond (branch_target at disp)
+text_of at these (FloatBranch annul cond disp) = float_branch_text annul cond (branch_target at disp)
+text_of at these (Alu op cc rd rs1 second) = alu_name op ++ ((if cc then codes "cc" else []) ++ operands rd rs1 second)
+text_of at these (Tagged op rd rs1 second) = tagged_name op ++ operands rd rs1 second
+text_of at these (MulStep rd rs1 second) = codes "mulscc" ++ operands rd rs1 second
+text_of at these (Shift op rd rs1 second) = shift_name op ++ operands rd rs1 second
+text_of at these (ReadY rd) = codes "rdy " ++ register rd
+text_of at these (WriteY rs1 second) = codes "wry " ++ (register rs1 ++ (codes ", " ++ operand second))
+text_of at these (FloatOp word) = word_text word
+text_of at these (FloatCmp word) = word_text word
+text_of at these (Jmpl rd rs1 second) = codes "jmpl " ++ (address rs1 second ++ (codes ", " ++ register rd))
+text_of at these (Flush rs1 second) = codes "iflush " ++ address rs1 second
+text_of at these (Save rd rs1 second) = codes "save" ++ operands rd rs1 second
+text_of at these (Restore rd rs1 second) = codes "restore" ++ operands rd rs1 second
+text_of at these (Ticc cond rs1 second) = codes "t" ++ (condition cond ++ (codes " " ++ address rs1 second))
+text_of at these (Load kind rd rs1 second) = load_name kind ++ loaded (register rd) rs1 second
+text_of at these (Store kind rd rs1 second) = store_name kind ++ stored (register rd) rs1 second
+text_of at these (Atomic swap rd rs1 second) = (if swap then codes "swap" else codes "ldstub") ++ loaded (register rd) rs1 second
+text_of at these (FloatMem kind rd rs1 second) = float_name kind ++ float_operands kind rd rs1 second
+text_of at these (Unmodelled word) = word_text word
+text_of at these (Unknown word) = word_text word
+text_of at these (Multiply cc rd rs1 second) = word_text these
+text_of at these (Divide cc rd rs1 second) = word_text these

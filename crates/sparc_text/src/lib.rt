@@ -9,6 +9,3 @@ mod texts;
 
 pub use laws::{code_has_words, lines_tell_words, listing_is_one};
 pub use lines::{line, listing};
-
-#[cfg(test)]
-mod tests;

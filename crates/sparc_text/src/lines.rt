@@ -20,7 +20,7 @@ fn put_line(out: &mut Vec<u8>, at: u32, word: u32) -> Result<(), Want>
     put(out, " ")?;
     put_hex8(out, word)?;
     put(out, " ")?;
-    put_instruction(out, at, decode(word))
+    put_instruction(out, at, word, decode(word))
 }
 
 /// The line of a word at an address, without its end: the address and the word, each in eight hexadecimal digits,

@@ -58,7 +58,7 @@ fn put_float_branch(out: &mut Vec<u8>, annul: bool, cond: u8, target: u32) -> Re
 
 /// Appends SETHI, with its field as it stands.
 fn put_sethi(out: &mut Vec<u8>, rd: u8, imm: u32) -> Result<(), Want>
-    ensures { OnOk result (out.new.items ≡ out.old.items ++ text_of 0 (Instr.Sethi rd imm)) }
+    ensures { OnOk result (out.new.items ≡ out.old.items ++ text_of 0 0 (Instr.Sethi rd imm)) }
 {
     put(out, "sethi ")?;
     put_hexadecimal(out, imm)?;
@@ -75,7 +75,7 @@ fn put_alu(
     rs1: u8,
     second: Second,
 ) -> Result<(), Want>
-    ensures { OnOk result (out.new.items ≡ out.old.items ++ text_of 0 (Instr.Alu op cc rd rs1 second)) }
+    ensures { OnOk result (out.new.items ≡ out.old.items ++ text_of 0 0 (Instr.Alu op cc rd rs1 second)) }
 {
     put(out, alu_name(op))?;
     put(out, if cc { "cc" } else { "" })?;
@@ -92,7 +92,7 @@ fn put_operation(out: &mut Vec<u8>, name: &str, rd: u8, rs1: u8, second: Second)
 
 /// Appends WRY.
 fn put_write_y(out: &mut Vec<u8>, rs1: u8, second: Second) -> Result<(), Want>
-    ensures { OnOk result (out.new.items ≡ out.old.items ++ text_of 0 (Instr.WriteY rs1 second)) }
+    ensures { OnOk result (out.new.items ≡ out.old.items ++ text_of 0 0 (Instr.WriteY rs1 second)) }
 {
     put(out, "wry ")?;
     put_register(out, rs1)?;
@@ -102,7 +102,7 @@ fn put_write_y(out: &mut Vec<u8>, rs1: u8, second: Second) -> Result<(), Want>
 
 /// Appends JMPL.
 fn put_jump(out: &mut Vec<u8>, rd: u8, rs1: u8, second: Second) -> Result<(), Want>
-    ensures { OnOk result (out.new.items ≡ out.old.items ++ text_of 0 (Instr.Jmpl rd rs1 second)) }
+    ensures { OnOk result (out.new.items ≡ out.old.items ++ text_of 0 0 (Instr.Jmpl rd rs1 second)) }
 {
     put(out, "jmpl ")?;
     put_address(out, rs1, second)?;
@@ -112,7 +112,7 @@ fn put_jump(out: &mut Vec<u8>, rd: u8, rs1: u8, second: Second) -> Result<(), Wa
 
 /// Appends a trap on a condition.
 fn put_trap(out: &mut Vec<u8>, cond: u8, rs1: u8, second: Second) -> Result<(), Want>
-    ensures { OnOk result (out.new.items ≡ out.old.items ++ text_of 0 (Instr.Ticc cond rs1 second)) }
+    ensures { OnOk result (out.new.items ≡ out.old.items ++ text_of 0 0 (Instr.Ticc cond rs1 second)) }
 {
     put(out, "t")?;
     put(out, condition(cond))?;
@@ -198,7 +198,7 @@ fn put_float(
     rs1: u8,
     second: Second,
 ) -> Result<(), Want>
-    ensures { OnOk result (out.new.items ≡ out.old.items ++ text_of 0 (Instr.FloatMem kind rd rs1 second)) }
+    ensures { OnOk result (out.new.items ≡ out.old.items ++ text_of 0 0 (Instr.FloatMem kind rd rs1 second)) }
 {
     put(out, float_name(kind))?;
     put_float_operands(out, kind, rd, rs1, second)
@@ -222,7 +222,7 @@ fn put_call(out: &mut Vec<u8>, target: u32) -> Result<(), Want>
 
 /// Appends UNIMP.
 fn put_unimp(out: &mut Vec<u8>, imm: u32) -> Result<(), Want>
-    ensures { OnOk result (out.new.items ≡ out.old.items ++ text_of 0 (Instr.Unimp imm)) }
+    ensures { OnOk result (out.new.items ≡ out.old.items ++ text_of 0 0 (Instr.Unimp imm)) }
 {
     put(out, "unimp ")?;
     put_hexadecimal(out, imm)
@@ -230,7 +230,7 @@ fn put_unimp(out: &mut Vec<u8>, imm: u32) -> Result<(), Want>
 
 /// Appends RDY.
 fn put_read_y(out: &mut Vec<u8>, rd: u8) -> Result<(), Want>
-    ensures { OnOk result (out.new.items ≡ out.old.items ++ text_of 0 (Instr.ReadY rd)) }
+    ensures { OnOk result (out.new.items ≡ out.old.items ++ text_of 0 0 (Instr.ReadY rd)) }
 {
     put(out, "rdy ")?;
     put_register(out, rd)
@@ -238,16 +238,21 @@ fn put_read_y(out: &mut Vec<u8>, rd: u8) -> Result<(), Want>
 
 /// Appends IFLUSH.
 fn put_flush(out: &mut Vec<u8>, rs1: u8, second: Second) -> Result<(), Want>
-    ensures { OnOk result (out.new.items ≡ out.old.items ++ text_of 0 (Instr.Flush rs1 second)) }
+    ensures { OnOk result (out.new.items ≡ out.old.items ++ text_of 0 0 (Instr.Flush rs1 second)) }
 {
     put(out, "iflush ")?;
     put_address(out, rs1, second)
 }
 
-/// Appends the text of an instruction that stands at an address.
-pub fn put_instruction(out: &mut Vec<u8>, at: u32, instruction: Instr) -> Result<(), Want>
+/// Appends the text of an instruction that stands at an address, for which this word stands there.
+pub fn put_instruction(
+    out: &mut Vec<u8>,
+    at: u32,
+    word: u32,
+    instruction: Instr,
+) -> Result<(), Want>
     requires { InRange instruction }
-    ensures { OnOk result (out.new.items ≡ out.old.items ++ text_of at instruction) }
+    ensures { OnOk result (out.new.items ≡ out.old.items ++ text_of at word instruction) }
 {
     match instruction {
         Instr::Call { disp } => put_call(out, call_target(at, disp)),
@@ -287,8 +292,8 @@ pub fn put_instruction(out: &mut Vec<u8>, at: u32, instruction: Instr) -> Result
         } => put_operation(out, shift_name(op), rd, rs1, second),
         Instr::ReadY { rd } => put_read_y(out, rd),
         Instr::WriteY { rs1, second } => put_write_y(out, rs1, second),
-        Instr::FloatOp(word) => put_word(out, word),
-        Instr::FloatCmp(word) => put_word(out, word),
+        Instr::FloatOp(operation) => put_word(out, operation),
+        Instr::FloatCmp(comparison) => put_word(out, comparison),
         Instr::Jmpl { rd, rs1, second } => put_jump(out, rd, rs1, second),
         Instr::Flush { rs1, second } => put_flush(out, rs1, second),
         Instr::Save { rd, rs1, second } => put_operation(out, "save", rd, rs1, second),
@@ -318,7 +323,9 @@ pub fn put_instruction(out: &mut Vec<u8>, at: u32, instruction: Instr) -> Result
             rs1,
             second,
         } => put_float(out, kind, rd, rs1, second),
-        Instr::Unmodelled(word) => put_word(out, word),
-        Instr::Unknown(word) => put_word(out, word),
+        Instr::Unmodelled(other) => put_word(out, other),
+        Instr::Unknown(other) => put_word(out, other),
+        Instr::Multiply { .. } => put_word(out, word),
+        Instr::Divide { .. } => put_word(out, word),
     }
 }

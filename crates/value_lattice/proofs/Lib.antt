@@ -7,3 +7,10 @@ pub mod JoinLemmas
 pub mod HeightLemmas
 pub mod OrderLemmas
 pub mod CompareLemmas
+pub mod MayLemmas
+pub mod WordsBelowLemmas
+pub mod LeastLemmas
+pub mod TestLemmas
+pub mod FunctionLemmas
+pub mod RankLemmas
+pub mod WidenLemmas

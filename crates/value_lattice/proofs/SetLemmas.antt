@@ -97,7 +97,7 @@ rising_in_part xs ys rises in_ys short w has =
     ]
 
 -- the rest of a rising list rises
-rising_rest : (x : ℕ) (xs : List ℕ) → IsStrictlyIncreasing (x ∷ xs) → IsStrictlyIncreasing xs
+pub rising_rest : (x : ℕ) (xs : List ℕ) → IsStrictlyIncreasing (x ∷ xs) → IsStrictlyIncreasing xs
 rising_rest x xs rises k below = let next : suc k + 1 ≡ suc (k + 1) = omega arith in rw next at (rises (suc k) (omega arith))
 
 -- the first of a rising list is its least

@@ -2,9 +2,12 @@ pub mod Ends
 pub mod Height
 pub mod Held
 pub mod Laws
+pub mod Least
 pub mod Merge
 pub mod Order
 pub mod Rounding
 pub mod Set
+pub mod Test
 pub mod Thresholds
 pub mod Value
+pub mod Passing

@@ -1,5 +1,5 @@
 -- The order of words that are read with sign, by natural numbers: the least number with sign has place 0.
-use Rattle.std.specs.Prelude.{◌≡◌, ℕ, suc, ◌+◌, ◌-◌, ◌%◌, ◌^◌, ◌<◌, ◌≤◌, ◌↔◌, ℤ, pos, negsuc, ◌≤ℤ◌, FitsSigned}
+use Rattle.std.specs.Prelude.{◌≡◌, ℕ, suc, ◌+◌, ◌-◌, ◌%◌, ◌^◌, ◌<◌, ◌≤◌, ◌↔◌, ℤ, pos, negsuc, ◌≤ℤ◌, FitsSigned, nat_le, if◌then◌else◌}
 use Rattle.std.specs.Int.{cast_signed, w32}
 
 -- the place of a word among all words as they are read with sign
@@ -14,6 +14,10 @@ word_at k = (k + 2 ^ 31) % 2 ^ 32
 abbrev pub rank_of : ℤ → ℕ
 rank_of (pos n) = n + 2 ^ 31
 rank_of (negsuc n) = 2 ^ 31 - suc n
+
+-- the number with sign at a place
+abbrev pub number_at : ℕ → ℤ
+number_at k = if nat_le (2 ^ 31) k then pos (k - 2 ^ 31) else negsuc (2 ^ 31 - 1 - k)
 
 -- the place of a word is that of the number that it is read as
 abbrev pub PlacesAreSigned : Type 0

@@ -1,7 +1,9 @@
 -- Thresholds, as the places of numbers with sign.
-use Rattle.std.specs.Prelude.{ℕ, ◌^◌, ◌<◌, ◌⊎◌, List, [], ◌∷◌, ℤ, map, All, Contains, pos, negsuc}
+use Rattle.std.specs.Prelude.{◌≡◌, ℕ, ◌^◌, ◌<◌, ◌⊎◌, ◌||◌, Bool, eqb, List, [], ◌∷◌, ℤ, map, All, Contains, pos, negsuc}
 use Rattle.std.specs.List.Sorted.{IsStrictlyIncreasing}
+use Rattle.std.specs.Set.{is_member}
 use Rattle.value_lattice.specs.Order.{rank_of}
+use Rattle.value_lattice.specs.Passing.{words_below}
 
 -- different places, rising, the first and the last of all among them
 pub record IsThresholds (t : List ℕ) : Type 0 where
@@ -21,3 +23,11 @@ pub record Widens (old new : List ℕ) (list : List ℤ) : Type 0 where
   pub keeps : (k : ℕ) → Contains old k → Contains new k
   pub has : All (λ z. Contains new (rank_of z)) list
   pub adds : (k : ℕ) → Contains new k → Contains old k ⊎ Contains (map rank_of list) k
+
+-- a place is one of these, or that of a number of a list
+abbrev pub is_widened : List ℕ → List ℤ → ℕ → Bool
+is_widened old list k = is_member eqb old k || is_member eqb (map rank_of list) k
+
+-- the thresholds that are the old ones and the places of the numbers of a list
+unfoldable pub widen : List ℕ → List ℤ → List ℕ
+widen old list = words_below (2 ^ 32) (is_widened old list)

@@ -1,4 +1,5 @@
-ghost use Rattle.std.specs.Prelude.{◌+◌, ◌≤◌, ◌↔◌, IsTrue, All, Contains};
+ghost use Rattle.value_lattice.specs.Test.{is_at_most};
+ghost use Rattle.std.specs.Prelude.{◌≡◌, ◌+◌, ◌≤◌, ◌↔◌, IsTrue, All, Contains};
 ghost use Rattle.value_lattice.specs.Order.{rank_of};
 ghost use Rattle.value_lattice.specs.Set.{IsSet};
 ghost use Rattle.value_lattice.specs.Value.{AtMost, HasEach, IsBetween, IsValue};
@@ -75,7 +76,8 @@ impl Value {
     pub fn at_most(&self, other: &Value) -> bool
         requires left { IsValue self.now }
         requires right { IsValue other.now }
-        ensures { IsTrue result ↔ AtMost self.now other.now }
+        ensures order { IsTrue result ↔ AtMost self.now other.now }
+        ensures value { result ≡ is_at_most self.now other.now }
     {
         match self {
             Value::Words(words) => has_set(other, words),

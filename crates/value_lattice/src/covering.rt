@@ -3,6 +3,7 @@ ghost use Rattle.std.specs.List.{range_with_len};
 ghost use Rattle.std.specs.List.Sorted.{IsStrictlyIncreasing};
 ghost use Rattle.value_lattice.specs.Order.{rank_of, word_at};
 ghost use Rattle.value_lattice.specs.Value.{IsLeast, IsBetween};
+ghost use Rattle.value_lattice.specs.Least.{cover, span};
 
 use crate::ends::ends_of;
 use crate::order::{rank, word_at_place};
@@ -31,8 +32,10 @@ pub(crate) fn cover_rising(words: Vec<u32>, t: &Thresholds) -> Value
 /// The least value over the thresholds that has each word of a list.
 pub fn cover(alloc: Global, list: &[u32], t: &Thresholds) -> Result<Value, Want>
     requires { 0 < length list.now }
-    ensures { IfOk result (IsLeast t.now (Contains list.now)) }
+    ensures least { IfOk result (IsLeast t.now (Contains list.now)) }
+    ensures value { IfOk result (λ v. v ≡ cover t.now list.now) }
 {
+    t.are_thresholds();
     if list.len() == 1 {
         return Value::word(list[0]);
     }
@@ -58,8 +61,10 @@ fn words_between(alloc: Global, low: u32, high: u32) -> Result<Vec<u32>, Want>
 /// The least value over the thresholds that has all words between two places.
 pub fn span_of_places(alloc: Global, low: u32, high: u32, t: &Thresholds) -> Result<Value, Want>
     requires { low ≤ high }
-    ensures { IfOk result (IsLeast t.now (IsBetween low high)) }
+    ensures least { IfOk result (IsLeast t.now (IsBetween low high)) }
+    ensures value { IfOk result (λ v. v ≡ span t.now low high) }
 {
+    t.are_thresholds();
     if high - low >= MOST as u32 {
         return Ok(range_between(low, high, t));
     }
@@ -70,7 +75,8 @@ pub fn span_of_places(alloc: Global, low: u32, high: u32, t: &Thresholds) -> Res
 /// The least value over the thresholds that has all words which, read with sign, are from `lo` to `hi`.
 pub fn span(alloc: Global, lo: i32, hi: i32, t: &Thresholds) -> Result<Value, Want>
     requires { lo ≤ℤ hi }
-    ensures { IfOk result (IsLeast t.now (IsBetween (rank_of lo) (rank_of hi))) }
+    ensures least { IfOk result (IsLeast t.now (IsBetween (rank_of lo) (rank_of hi))) }
+    ensures value { IfOk result (λ v. v ≡ span t.now (rank_of lo) (rank_of hi)) }
 {
     span_of_places(alloc, rank(lo), rank(hi), t)
 }

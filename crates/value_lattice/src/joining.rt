@@ -1,6 +1,7 @@
-ghost use Rattle.std.specs.Prelude.{IfOk, min, max};
+ghost use Rattle.std.specs.Prelude.{◌≡◌, IfOk, min, max};
 ghost use Rattle.value_lattice.specs.Order.{rank_of};
 ghost use Rattle.value_lattice.specs.Value.{IsOver, IsJoin, IsLeast, IsBetween};
+ghost use Rattle.value_lattice.specs.Least.{join};
 
 use crate::covering::cover_rising;
 use crate::ends::ends_of;
@@ -76,8 +77,10 @@ impl Value {
     pub fn join(&self, alloc: Global, other: &Value, t: &Thresholds) -> Result<Value, Want>
         requires left { IsOver t.now self.now }
         requires right { IsOver t.now other.now }
-        ensures { IfOk result (IsJoin t.now self.now other.now) }
+        ensures join { IfOk result (IsJoin t.now self.now other.now) }
+        ensures value { IfOk result (λ v. v ≡ join t.now self.now other.now) }
     {
+        t.are_thresholds();
         match self {
             Value::Words(words) => join_set(alloc, words, other, t),
             Value::Range { lo, hi } => Ok(join_range(*lo, *hi, other, t)),

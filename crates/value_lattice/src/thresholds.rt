@@ -1,6 +1,6 @@
 ghost use Rattle.std.specs.Prelude.{◌≡◌, ℕ, ◌++◌, IfOk, OnOk, Contains, length, map};
 ghost use Rattle.value_lattice.specs.Order.{rank_of};
-ghost use Rattle.value_lattice.specs.Thresholds.{IsThresholds, Widens, constants};
+ghost use Rattle.value_lattice.specs.Thresholds.{IsThresholds, Widens, constants, widen};
 
 use crate::order::rank;
 use crate::sorting::put_in_order;
@@ -55,7 +55,8 @@ fn extend(places: &mut Vec<u32>, numbers: &[i32]) -> Result<(), Want>
 fn with_numbers(mut places: Vec<u32>, list: &[i32]) -> Result<Thresholds, Want>
     requires least { Contains places.items 0 }
     requires greatest { Contains places.items 4294967295 }
-    ensures { IfOk result (λ t. Widens places.items t list.now) }
+    ensures widens { IfOk result (λ t. Widens places.items t list.now) }
+    ensures value { IfOk result (λ t. t ≡ widen places.items list.now) }
 {
     extend(&mut places, list)?;
     put_in_order(&mut places);
@@ -65,7 +66,8 @@ fn with_numbers(mut places: Vec<u32>, list: &[i32]) -> Result<Thresholds, Want>
 impl Thresholds {
     /// The thresholds of a list, and those that always are.
     pub fn make(alloc: Global, list: &[i32]) -> Result<Thresholds, Want>
-        ensures { IfOk result (λ t. Widens (map rank_of constants) t list.now) }
+        ensures widens { IfOk result (λ t. Widens (map rank_of constants) t list.now) }
+        ensures value { IfOk result (λ t. t ≡ widen (map rank_of constants) list.now) }
     {
         let mut places = Vec::new(alloc);
         extend(&mut places, &CONSTANTS)?;
@@ -74,10 +76,18 @@ impl Thresholds {
 
     /// These thresholds and those of a list.
     pub fn widened(&self, alloc: Global, list: &[i32]) -> Result<Thresholds, Want>
-        ensures { IfOk result (λ t. Widens self.now t list.now) }
+        ensures widens { IfOk result (λ t. Widens self.now t list.now) }
+        ensures value { IfOk result (λ t. t ≡ widen self.now list.now) }
     {
         let places = Vec::from_slice(alloc, self.places.as_slice())?;
         with_numbers(places, list)
+    }
+
+    /// These are thresholds: a fact for proofs, and nothing is done.
+    pub fn are_thresholds(&self)
+        ensures { IsThresholds self.now }
+    {
+        let _ = &self.places;
     }
 
     /// How many numbers are thresholds.

@@ -20,9 +20,10 @@ pub enum Value {
 
 impl Value {
     ghost use Rattle.std.specs.Prelude.{◌≡◌, ◌∷◌, [], ◌↔◌, ℕ, List, ◌^◌, ◌<◌, pos, negsuc, IsTrue, IfOk};
-    ghost use Rattle.value_lattice.specs.Ends.{AreEnds};
+    ghost use Rattle.value_lattice.specs.Ends.{AreEnds, low_end, high_end};
     ghost use Rattle.value_lattice.specs.Thresholds.{IsThresholds};
-    ghost use Rattle.value_lattice.specs.Value.{Has, AtMost, IsValue, IsOver};
+    ghost use Rattle.value_lattice.specs.Test.{may_have};
+    ghost use Rattle.value_lattice.specs.Value.{Has, IsOver, MayHave, is_zero, one_of};
 
     /// Any word.
     pub fn top() -> Value
@@ -55,6 +56,35 @@ impl Value {
         }
     }
 
+    /// Whether the value has a word where the return address is a certain one: so `Ret` may be any word.
+    pub fn may_have(&self, w: u32) -> bool
+        ensures words { IsTrue result ↔ MayHave self.now w }
+        ensures value { result ≡ may_have self.now w }
+    {
+        self.has(w, w)
+    }
+
+    /// The one word of a set of one.
+    pub fn one_word(&self) -> Option<u32>
+        ensures { result ≡ one_of self.now }
+    {
+        match self {
+            Value::Words(words) => words.only(),
+            Value::Range { .. } => None,
+            Value::Ret => None,
+        }
+    }
+
+    /// Whether the value is exactly the word 0.
+    pub fn is_zero(&self) -> bool
+        ensures { result ≡ is_zero self.now }
+    {
+        match self.one_word() {
+            Some(word) => word == 0,
+            None => false,
+        }
+    }
+
     /// The same value.
     pub fn copy(&self, alloc: Global) -> Result<Value, Want>
         ensures { IfOk result (λ v. v ≡ self.now) }
@@ -68,7 +98,9 @@ impl Value {
 
     /// The places of the least and the greatest word; those of all words for the return address.
     pub fn ends(&self) -> (u32, u32)
-        ensures { AreEnds self.now result.0 result.1 }
+        ensures ends { AreEnds self.now result.0 result.1 }
+        ensures low { result.0 ≡ low_end self.now }
+        ensures high { result.1 ≡ high_end self.now }
     {
         match self {
             Value::Words(words) => ends_of(words.members()),

@@ -1,5 +1,6 @@
 ghost use Rattle.std.specs.Prelude.{◌≡◌, ◌∷◌, [], ◌↔◌, IsTrue, IfOk, Contains};
 ghost use Rattle.value_lattice.specs.Set.{IsSet};
+ghost use Rattle.value_lattice.specs.Value.{one_in};
 
 use crate::sorting::has;
 use bt_base::Want;
@@ -50,6 +51,16 @@ impl Words {
         ensures { IsTrue result ↔ Contains self.now word }
     {
         has(self.members(), word)
+    }
+
+    /// The word, where it is one.
+    pub(crate) fn only(&self) -> Option<u32>
+        ensures { result ≡ one_in self.now }
+    {
+        match self.members() {
+            [only] => Some(*only),
+            _ => None,
+        }
     }
 
     /// The set of one word.

@@ -10,18 +10,19 @@ use Rattle.value_lattice.specs.Ends.{AreEnds, AreEndsOf}
 use Rattle.value_lattice.specs.Laws.{AreMore}
 use Rattle.value_lattice.specs.Order.{place_of, word_at, rank_of}
 use Rattle.value_lattice.specs.Set.{IsSet}
-use Rattle.value_lattice.specs.Value.{Has, AtMost, IsValue, IsOver, IsLeast}
+use Rattle.value_lattice.specs.Value.{Has, AtMost, IsValue, IsOver, IsLeast, one_of, is_zero_word, is_zero}
 use Rattle.value_lattice.specs.declared.value.Value.{Value}
 use Rattle.value_lattice.specs.declared.value.Value.TheVariants.{Words, Range, Ret}
 use Rattle.value_lattice.proofs.JoinLemmas.{between_ends, ends_inside, no_ret_in_set}
 use Rattle.value_lattice.proofs.SetLemmas.{place_of-word_at, word_at_below}
 use Rattle.value_lattice.proofs.ValueLemmas.{no_range_in_set, over_more, same_value}
-use Rattle.value_ops.specs.Operation.{result_of, one_of, is_zero_word, is_zero, copies_left, copies_right, IsPointwise, IsSpanned, IsComputed, IsStep, IsTwice, IsApplied}
+use Rattle.value_ops.specs.Operation.{result_of, carried_of, copies_left, copies_right, IsPointwise, IsSpanned, IsComputed, IsStep, IsTwice, IsApplied}
 use Rattle.value_ops.specs.Row.{IsFilled, all, shifts, row_of, left_shifts, right_shifts, signed_shifts}
 use Rattle.value_ops.specs.declared.op.Op.{Op}
-use Rattle.value_ops.specs.declared.op.Op.TheVariants.{Add, Sub, And, Or, Xor, Andn, Orn, Xnor, Sll, Srl, Sra, Addx, Subx}
+use Rattle.value_ops.specs.declared.op.Op.TheVariants.{Add, Sub, And, Or, Xor, Andn, Orn, Xnor, Sll, Srl, Sra, Addx, Subx, Mul}
 use Rattle.value_ops.specs.declared.rows.Span.{Span}
 use Rattle.value_ops.proofs.RowLemmas.{IsIn, IsWider, in_all, all_is_wider, in_sums, in_differences, in_conjunctions, in_left_conjunctions, in_left_shifts, in_right_shifts, in_signed_shifts, sums_widen, differences_widen, conjunctions_widen, left_conjunctions_widen, left_shifts_widen, right_shifts_widen, signed_shifts_widen, left_shifts_fit, right_shifts_fit, signed_shifts_fit}
+use Rattle.value_ops.proofs.ProductLemmas.{in_products, products_widen}
 use Rattle.word_ops.specs.Word.{sum_of, difference_of, complement_of, bit_of, shifted_left, shifted_right, shifted_right_signed}
 
 complement_is_word : (x : ℕ) → x < 2 ^ 32 → complement_of x < 2 ^ 32
@@ -42,6 +43,7 @@ result_is_word Srl carry x y xw yw = omega (arith, div-le_self x (2 ^ (y % 32)))
 result_is_word Sra carry x y xw yw = omega arith
 result_is_word Addx carry x y xw yw = omega arith
 result_is_word Subx carry x y xw yw = omega arith
+result_is_word Mul carry x y xw yw = omega arith
 
 -- a value that is one word has no other
 pub one_word : (v : Value) (y ra n : ℕ) → one_of v ≡ Some n → Has v y ra → y ≡ n
@@ -64,28 +66,29 @@ shift_in : (by : ℕ → Span → Span) (of : ℕ → ℕ → ℕ) (o : Option �
 shift_in by of None a x y one each = in_all (of x y)
 shift_in by of (Some n) a x y one each = subst (λ (m : ℕ). IsIn (by (n % 32) a) (of x m)) (sym (one n refl)) (each n)
 
-pub row_covers : (op : Op) (o : Option ℕ) (a b : Span) (carry : Bool) (x y : ℕ) → x < 2 ^ 32 → y < 2 ^ 32 → IsIn a x → IsIn b y → ((n : ℕ) → o ≡ Some n → y ≡ n) → IsIn (row_of op o a b) (result_of op carry x y)
-row_covers Add o a b carry x y xw yw in_a in_b one = in_sums a b x y xw yw in_a in_b
-row_covers Sub o a b carry x y xw yw in_a in_b one = in_differences a b x y xw yw in_a in_b
-row_covers And o a b carry x y xw yw in_a in_b one = in_conjunctions a b x y xw yw in_a in_b
-row_covers Andn o a b carry x y xw yw in_a in_b one = in_left_conjunctions a x (complement_of y) xw in_a
-row_covers Sll o a b carry x y xw yw in_a in_b one = shift_in left_shifts shifted_left o a x y one (λ n. in_left_shifts (n % 32) a x xw in_a)
-row_covers Srl o a b carry x y xw yw in_a in_b one = shift_in right_shifts shifted_right o a x y one (λ n. in_right_shifts (n % 32) a x (omega arith) xw in_a)
-row_covers Sra o a b carry x y xw yw in_a in_b one = shift_in signed_shifts shifted_right_signed o a x y one (λ n. in_signed_shifts (n % 32) a x (omega arith) in_a)
-row_covers Or o a b carry x y xw yw in_a in_b one = in_all (result_of Or carry x y)
-row_covers Xor o a b carry x y xw yw in_a in_b one = in_all (result_of Xor carry x y)
-row_covers Orn o a b carry x y xw yw in_a in_b one = in_all (result_of Orn carry x y)
-row_covers Xnor o a b carry x y xw yw in_a in_b one = in_all (result_of Xnor carry x y)
-row_covers Addx o a b carry x y xw yw in_a in_b one = in_all (result_of Addx carry x y)
-row_covers Subx o a b carry x y xw yw in_a in_b one = in_all (result_of Subx carry x y)
+pub row_covers : (op : Op) (o : Option ℕ) (a b : Span) (carry : Bool) (x y : ℕ) → a.high < 2 ^ 32 → b.high < 2 ^ 32 → x < 2 ^ 32 → y < 2 ^ 32 → IsIn a x → IsIn b y → ((n : ℕ) → o ≡ Some n → y ≡ n) → IsIn (row_of op o a b) (result_of op carry x y)
+row_covers Add o a b carry x y fa fb xw yw in_a in_b one = in_sums a b x y xw yw in_a in_b
+row_covers Sub o a b carry x y fa fb xw yw in_a in_b one = in_differences a b x y xw yw in_a in_b
+row_covers And o a b carry x y fa fb xw yw in_a in_b one = in_conjunctions a b x y xw yw in_a in_b
+row_covers Andn o a b carry x y fa fb xw yw in_a in_b one = in_left_conjunctions a x (complement_of y) xw in_a
+row_covers Sll o a b carry x y fa fb xw yw in_a in_b one = shift_in left_shifts shifted_left o a x y one (λ n. in_left_shifts (n % 32) a x xw in_a)
+row_covers Srl o a b carry x y fa fb xw yw in_a in_b one = shift_in right_shifts shifted_right o a x y one (λ n. in_right_shifts (n % 32) a x (omega arith) xw in_a)
+row_covers Sra o a b carry x y fa fb xw yw in_a in_b one = shift_in signed_shifts shifted_right_signed o a x y one (λ n. in_signed_shifts (n % 32) a x (omega arith) in_a)
+row_covers Or o a b carry x y fa fb xw yw in_a in_b one = in_all (result_of Or carry x y)
+row_covers Xor o a b carry x y fa fb xw yw in_a in_b one = in_all (result_of Xor carry x y)
+row_covers Orn o a b carry x y fa fb xw yw in_a in_b one = in_all (result_of Orn carry x y)
+row_covers Xnor o a b carry x y fa fb xw yw in_a in_b one = in_all (result_of Xnor carry x y)
+row_covers Addx o a b carry x y fa fb xw yw in_a in_b one = in_all (result_of Addx carry x y)
+row_covers Subx o a b carry x y fa fb xw yw in_a in_b one = in_all (result_of Subx carry x y)
+row_covers Mul o a b carry x y fa fb xw yw in_a in_b one = in_products a b x y fa fb xw yw in_a in_b
 
 -- what a value has is in its span
-in_span : (v : Value) (s : Span) (x ra : ℕ) → AreEnds v s.low s.high → x < 2 ^ 32 → Has v x ra → IsIn s x
+pub in_span : (v : Value) (s : Span) (x ra : ℕ) → AreEnds v s.low s.high → x < 2 ^ 32 → Has v x ra → IsIn s x
 in_span v s x ra ends word has = let between = between_ends v s.low s.high x ra ends word has in record { above = between.0; below = between.1 }
 
 spanned_covers : (t : List ℕ) (op : Op) (a b v : Value) (x y ra : ℕ) → IsSpanned t op a b v → x < 2 ^ 32 → y < 2 ^ 32 → ra < 2 ^ 32 → Has a x ra → Has b y ra → Has v (result_of op false x y) ra
 spanned_covers t op a b v x y ra s xw yw address has_x has_y =
-    let within : IsIn (row_of op (one_of b) s.from s.by) (result_of op false x y) = row_covers op (one_of b) s.from s.by false x y xw yw (in_span a s.from x ra s.left xw has_x) (in_span b s.by y ra s.right yw has_y) (λ n is. one_word b y ra n is has_y) in
+    let within : IsIn (row_of op (one_of b) s.from s.by) (result_of op false x y) = row_covers op (one_of b) s.from s.by false x y s.left_word s.right_word xw yw (in_span a s.from x ra s.left xw has_x) (in_span b s.by y ra s.right yw has_y) (λ n is. one_word b y ra n is has_y) in
     s.span.each.words (result_of op false x y) ra (result_is_word op false x y xw yw) address (within.above, within.below)
 
 computed_covers : (t : List ℕ) (op : Op) (a b v : Value) (x y ra : ℕ) → IsComputed t op a b v → x < 2 ^ 32 → y < 2 ^ 32 → ra < 2 ^ 32 → Has a x ra → Has b y ra → Has v (result_of op false x y) ra
@@ -125,6 +128,7 @@ left_stays Srl x copies word = absurd (false≢true copies)
 left_stays Sra x copies word = absurd (false≢true copies)
 left_stays Addx x copies word = absurd (false≢true copies)
 left_stays Subx x copies word = absurd (false≢true copies)
+left_stays Mul x copies word = absurd (false≢true copies)
 
 right_stays : (op : Op) (y : ℕ) → copies_right op ≡ true → y < 2 ^ 32 → result_of op false 0 y ≡ y
 right_stays Add y copies word = omega arith
@@ -140,6 +144,7 @@ right_stays Srl y copies word = absurd (false≢true copies)
 right_stays Sra y copies word = absurd (false≢true copies)
 right_stays Addx y copies word = absurd (false≢true copies)
 right_stays Subx y copies word = absurd (false≢true copies)
+right_stays Mul y copies word = absurd (false≢true copies)
 
 pub step_covers : (t : List ℕ) (op : Op) (a b v : Value) (x y ra : ℕ) → IsStep t op a b v → x < 2 ^ 32 → y < 2 ^ 32 → ra < 2 ^ 32 → Has a x ra → Has b y ra → Has v (result_of op false x y) ra
 step_covers t op a b v x y ra step xw yw address has_x has_y =
@@ -218,6 +223,7 @@ applied_covers t Sll a b v carry x y ra over_a over_b step xw yw address has_x h
 applied_covers t Srl a b v carry x y ra over_a over_b step xw yw address has_x has_y = step_covers t Srl a b v x y ra step xw yw address has_x has_y
 applied_covers t Sra a b v carry x y ra over_a over_b step xw yw address has_x has_y = step_covers t Sra a b v x y ra step xw yw address has_x has_y
 applied_covers t Addx a b v carry x y ra over_a over_b twice xw yw address has_x has_y = subst (λ (w : ℕ). Has v w ra) (carried_sum carry x y) (twice_covers t Add a b v carry x y ra twice xw yw address has_x has_y)
+applied_covers t Mul a b v carry x y ra over_a over_b step xw yw address has_x has_y = step_covers t Mul a b v x y ra step xw yw address has_x has_y
 applied_covers t Subx a b v carry x y ra over_a over_b twice xw yw address has_x has_y = subst (λ (w : ℕ). Has v w ra) (carried_difference carry x y xw yw) (twice_covers t Sub a b v carry x y ra twice xw yw address has_x has_y)
 
 -- monotone
@@ -315,20 +321,21 @@ shifts_widen by None None a c same each fits = all_is_wider all (omega arith)
 shifts_widen by None (Some n) a c same each fits = all_is_wider (by (n % 32) c) (fits n)
 shifts_widen by (Some n) narrow a c same each fits = rw (same n refl) (each n)
 
-row_widens : (op : Op) (wide narrow : Option ℕ) (a b c d : Span) → ((n : ℕ) → wide ≡ Some n → narrow ≡ Some n) → IsFilled a → IsFilled b → IsFilled c → IsFilled d → c.high < 2 ^ 32 → d.high < 2 ^ 32 → IsWider c a → IsWider d b → IsWider (row_of op narrow c d) (row_of op wide a b)
-row_widens Add wide narrow a b c d same fa fb fc fd wc wd ca db = sums_widen a b c d fa fb fc fd ca db
-row_widens Sub wide narrow a b c d same fa fb fc fd wc wd ca db = differences_widen a b c d fa fb fc fd ca db
-row_widens And wide narrow a b c d same fa fb fc fd wc wd ca db = conjunctions_widen a b c d wc wd ca db
-row_widens Andn wide narrow a b c d same fa fb fc fd wc wd ca db = left_conjunctions_widen a c wc ca
-row_widens Sll wide narrow a b c d same fa fb fc fd wc wd ca db = shifts_widen left_shifts wide narrow a c same (λ n. left_shifts_widen (n % 32) a c fc ca) (λ n. left_shifts_fit (n % 32) c)
-row_widens Srl wide narrow a b c d same fa fb fc fd wc wd ca db = shifts_widen right_shifts wide narrow a c same (λ n. right_shifts_widen (n % 32) a c (omega arith) fc wc ca) (λ n. right_shifts_fit (n % 32) c wc)
-row_widens Sra wide narrow a b c d same fa fb fc fd wc wd ca db = shifts_widen signed_shifts wide narrow a c same (λ n. signed_shifts_widen (n % 32) a c ca) (λ n. signed_shifts_fit (n % 32) c (omega arith) wc)
-row_widens Or wide narrow a b c d same fa fb fc fd wc wd ca db = all_is_wider all (omega arith)
-row_widens Xor wide narrow a b c d same fa fb fc fd wc wd ca db = all_is_wider all (omega arith)
-row_widens Orn wide narrow a b c d same fa fb fc fd wc wd ca db = all_is_wider all (omega arith)
-row_widens Xnor wide narrow a b c d same fa fb fc fd wc wd ca db = all_is_wider all (omega arith)
-row_widens Addx wide narrow a b c d same fa fb fc fd wc wd ca db = all_is_wider all (omega arith)
-row_widens Subx wide narrow a b c d same fa fb fc fd wc wd ca db = all_is_wider all (omega arith)
+row_widens : (op : Op) (wide narrow : Option ℕ) (a b c d : Span) → ((n : ℕ) → wide ≡ Some n → narrow ≡ Some n) → IsFilled a → IsFilled b → IsFilled c → IsFilled d → a.high < 2 ^ 32 → b.high < 2 ^ 32 → c.high < 2 ^ 32 → d.high < 2 ^ 32 → IsWider c a → IsWider d b → IsWider (row_of op narrow c d) (row_of op wide a b)
+row_widens Add wide narrow a b c d same fa fb fc fd wa wb wc wd ca db = sums_widen a b c d fa fb fc fd ca db
+row_widens Sub wide narrow a b c d same fa fb fc fd wa wb wc wd ca db = differences_widen a b c d fa fb fc fd ca db
+row_widens And wide narrow a b c d same fa fb fc fd wa wb wc wd ca db = conjunctions_widen a b c d wc wd ca db
+row_widens Andn wide narrow a b c d same fa fb fc fd wa wb wc wd ca db = left_conjunctions_widen a c wc ca
+row_widens Sll wide narrow a b c d same fa fb fc fd wa wb wc wd ca db = shifts_widen left_shifts wide narrow a c same (λ n. left_shifts_widen (n % 32) a c fc ca) (λ n. left_shifts_fit (n % 32) c)
+row_widens Srl wide narrow a b c d same fa fb fc fd wa wb wc wd ca db = shifts_widen right_shifts wide narrow a c same (λ n. right_shifts_widen (n % 32) a c (omega arith) fc wc ca) (λ n. right_shifts_fit (n % 32) c wc)
+row_widens Sra wide narrow a b c d same fa fb fc fd wa wb wc wd ca db = shifts_widen signed_shifts wide narrow a c same (λ n. signed_shifts_widen (n % 32) a c ca) (λ n. signed_shifts_fit (n % 32) c (omega arith) wc)
+row_widens Or wide narrow a b c d same fa fb fc fd wa wb wc wd ca db = all_is_wider all (omega arith)
+row_widens Xor wide narrow a b c d same fa fb fc fd wa wb wc wd ca db = all_is_wider all (omega arith)
+row_widens Orn wide narrow a b c d same fa fb fc fd wa wb wc wd ca db = all_is_wider all (omega arith)
+row_widens Xnor wide narrow a b c d same fa fb fc fd wa wb wc wd ca db = all_is_wider all (omega arith)
+row_widens Addx wide narrow a b c d same fa fb fc fd wa wb wc wd ca db = all_is_wider all (omega arith)
+row_widens Subx wide narrow a b c d same fa fb fc fd wa wb wc wd ca db = all_is_wider all (omega arith)
+row_widens Mul wide narrow a b c d same fa fb fc fd wa wb wc wd ca db = products_widen a b c d wa wb fc fd ca db
 
 -- two results computed from ends
 spanned_is_monotone : (t more : List ℕ) (op : Op) (a b c d v u : Value) → AreMore t more → IsOver t a → IsOver t b → IsOver more c → IsOver more d → AtMost c a → AtMost d b → IsSpanned t op a b v → IsSpanned more op c d u → AtMost u v
@@ -340,7 +347,7 @@ spanned_is_monotone t more op a b c d v u in_more oa ob oc od left right wide na
     let ca = ends_widen more a c narrow.from.low narrow.from.high wide.from.low wide.from.high oa.value oc left narrow.left narrow.left_word fc wide.left in
     let db = ends_widen more b d narrow.by.low narrow.by.high wide.by.low wide.by.high ob.value od right narrow.right narrow.right_word fd wide.right in
     let wider : IsWider (row_of op (one_of d) narrow.from narrow.by) (row_of op (one_of b) wide.from wide.by) =
-    row_widens op (one_of b) (one_of d) wide.from wide.by narrow.from narrow.by (λ n is. one_below d b n od.value ob.value right is) fa fb fc fd narrow.left_word narrow.right_word (record { low = ca.0; high = ca.1 }) (record { low = db.0; high = db.1 }) in
+    row_widens op (one_of b) (one_of d) wide.from wide.by narrow.from narrow.by (λ n is. one_below d b n od.value ob.value right is) fa fb fc fd wide.left_word wide.right_word narrow.left_word narrow.right_word (record { low = ca.0; high = ca.1 }) (record { low = db.0; high = db.1 }) in
     narrow.span.least v (over_more t more v in_more.thresholds wide.span.over)
     (record { words = λ w ra word address between. wide.span.each.words w ra word address (omega (arith, between, wider.low), omega (arith, between, wider.high)) })
 
@@ -412,20 +419,13 @@ twice_is_monotone t more op a b c d v u in_more oa ob oc od left right wide narr
     let between : AtMost narrow.between wide.between = step_is_monotone t more op a b c d wide.between narrow.between in_more oa ob oc od left right wide.first narrow.first in
     step_is_monotone t more op wide.between (Words (0 ∷ 1 ∷ [])) narrow.between (Words (0 ∷ 1 ∷ [])) v u in_more (step_over t op a b wide.between oa ob wide.first) (carry_over t) (step_over more op c d narrow.between oc od narrow.first) (carry_over more) between (record { words = λ w ra word address has. has }) wide.second narrow.second
 
+applied_by : (o : Option Op) (t more : List ℕ) (op : Op) (a b c d v u : Value) → AreMore t more → IsOver t a → IsOver t b → IsOver more c → IsOver more d → AtMost c a → AtMost d b
+    → MatchOption o (IsStep t op a b v) (λ base. IsTwice t base a b v) → MatchOption o (IsStep more op c d u) (λ base. IsTwice more base c d u) → AtMost u v
+applied_by None t more op a b c d v u in_more oa ob oc od left right wide narrow = step_is_monotone t more op a b c d v u in_more oa ob oc od left right wide narrow
+applied_by (Some base) t more op a b c d v u in_more oa ob oc od left right wide narrow = twice_is_monotone t more base a b c d v u in_more oa ob oc od left right wide narrow
+
 pub applied_is_monotone : (t more : List ℕ) (op : Op) (a b c d v u : Value) → AreMore t more → IsOver t a → IsOver t b → IsOver more c → IsOver more d → AtMost c a → AtMost d b → IsApplied t op a b v → IsApplied more op c d u → AtMost u v
-applied_is_monotone t more Add a b c d v u in_more oa ob oc od left right wide narrow = step_is_monotone t more Add a b c d v u in_more oa ob oc od left right wide narrow
-applied_is_monotone t more Sub a b c d v u in_more oa ob oc od left right wide narrow = step_is_monotone t more Sub a b c d v u in_more oa ob oc od left right wide narrow
-applied_is_monotone t more And a b c d v u in_more oa ob oc od left right wide narrow = step_is_monotone t more And a b c d v u in_more oa ob oc od left right wide narrow
-applied_is_monotone t more Or a b c d v u in_more oa ob oc od left right wide narrow = step_is_monotone t more Or a b c d v u in_more oa ob oc od left right wide narrow
-applied_is_monotone t more Xor a b c d v u in_more oa ob oc od left right wide narrow = step_is_monotone t more Xor a b c d v u in_more oa ob oc od left right wide narrow
-applied_is_monotone t more Andn a b c d v u in_more oa ob oc od left right wide narrow = step_is_monotone t more Andn a b c d v u in_more oa ob oc od left right wide narrow
-applied_is_monotone t more Orn a b c d v u in_more oa ob oc od left right wide narrow = step_is_monotone t more Orn a b c d v u in_more oa ob oc od left right wide narrow
-applied_is_monotone t more Xnor a b c d v u in_more oa ob oc od left right wide narrow = step_is_monotone t more Xnor a b c d v u in_more oa ob oc od left right wide narrow
-applied_is_monotone t more Sll a b c d v u in_more oa ob oc od left right wide narrow = step_is_monotone t more Sll a b c d v u in_more oa ob oc od left right wide narrow
-applied_is_monotone t more Srl a b c d v u in_more oa ob oc od left right wide narrow = step_is_monotone t more Srl a b c d v u in_more oa ob oc od left right wide narrow
-applied_is_monotone t more Sra a b c d v u in_more oa ob oc od left right wide narrow = step_is_monotone t more Sra a b c d v u in_more oa ob oc od left right wide narrow
-applied_is_monotone t more Addx a b c d v u in_more oa ob oc od left right wide narrow = twice_is_monotone t more Add a b c d v u in_more oa ob oc od left right wide narrow
-applied_is_monotone t more Subx a b c d v u in_more oa ob oc od left right wide narrow = twice_is_monotone t more Sub a b c d v u in_more oa ob oc od left right wide narrow
+applied_is_monotone t more op a b c d v u in_more oa ob oc od left right wide narrow = applied_by (carried_of op) t more op a b c d v u in_more oa ob oc od left right wide narrow
 
 pub carry_is : (t : List ℕ) (v : Value) → IsLeast t (Contains (0 ∷ 1 ∷ [])) v → v ≡ Words (0 ∷ 1 ∷ [])
 carry_is t v least =

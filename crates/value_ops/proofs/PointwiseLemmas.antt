@@ -7,12 +7,8 @@ use Rattle.value_lattice.specs.Value.{IsLeast}
 use Rattle.value_lattice.specs.declared.value.Value.{Value}
 use Rattle.value_lattice.proofs.SetLemmas.{Contains-map}
 use Rattle.value_lattice.proofs.ValueLemmas.{least_of_same}
-use Rattle.value_ops.specs.Operation.{IsPointwise, result_of}
+use Rattle.value_ops.specs.Operation.{IsPointwise, result_of, results}
 use Rattle.value_ops.specs.declared.op.Op.{Op}
-
--- the results of each pair
-abbrev pub results : Op → List ℕ → List ℕ → List ℕ
-results op xs ys = flat_map (λ x. map (result_of op false x) ys) xs
 
 -- a mapped list has only what the list gives
 from_map : (f : ℕ → ℕ) (ys : List ℕ) (w : ℕ) → Contains (map f ys) w → (y : ℕ) × Contains ys y × (w ≡ f y)

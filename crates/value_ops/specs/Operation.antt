@@ -1,14 +1,16 @@
 -- What an operation on values comes to.
-use Rattle.std.specs.Prelude.{◌==◌, ◌≡◌, ℕ, ◌^◌, ◌<◌, ◌&&◌, Bool, true, false, List, [], ◌∷◌, Option, Some, None, Contains, MatchOption, bit_and, bit_or, bit_xor, if◌then◌else◌}
-use Rattle.value_lattice.specs.Ends.{AreEnds}
-use Rattle.value_lattice.specs.Value.{IsLeast, IsBetween}
+use Rattle.std.specs.Prelude.{◌==◌, ◌≡◌, ℕ, ◌^◌, ◌<◌, ◌&&◌, Bool, true, false, List, [], ◌∷◌, Option, Some, None, Contains, MatchOption, map, bit_and, bit_or, bit_xor, if◌then◌else◌}
+use Rattle.std.specs.List.{flat_map}
+use Rattle.value_lattice.specs.Ends.{AreEnds, low_end, high_end}
+use Rattle.value_lattice.specs.Least.{cover, span}
+use Rattle.value_lattice.specs.Value.{IsLeast, IsBetween, one_of, is_zero}
 use Rattle.value_lattice.specs.declared.value.Value.{Value}
 use Rattle.value_lattice.specs.declared.value.Value.TheVariants.{Words, Range, Ret}
 use Rattle.value_ops.specs.Row.{row_of}
 use Rattle.value_ops.specs.declared.op.Op.{Op}
 use Rattle.value_ops.specs.declared.rows.Span.{Span}
-use Rattle.value_ops.specs.declared.op.Op.TheVariants.{Add, Sub, And, Or, Xor, Andn, Orn, Xnor, Sll, Srl, Sra, Addx, Subx}
-use Rattle.word_ops.specs.Word.{sum_of, difference_of, complement_of, shifted_left, shifted_right, shifted_right_signed}
+use Rattle.value_ops.specs.declared.op.Op.TheVariants.{Add, Sub, And, Or, Xor, Andn, Orn, Xnor, Sll, Srl, Sra, Addx, Subx, Mul}
+use Rattle.word_ops.specs.Word.{sum_of, difference_of, product_of, complement_of, shifted_left, shifted_right, shifted_right_signed}
 
 -- the result of an operation on two words, and on the carry for those that read it
 abbrev pub result_of : Op → Bool → ℕ → ℕ → ℕ
@@ -25,25 +27,7 @@ result_of Srl carry x y = shifted_right x y
 result_of Sra carry x y = shifted_right_signed x y
 result_of Addx carry x y = sum_of x y carry
 result_of Subx carry x y = difference_of x y carry
-
--- the one word of a set of one
-abbrev pub one_in : List ℕ → Option ℕ
-one_in [] = None
-one_in (w ∷ []) = Some w
-one_in (w ∷ v ∷ rest) = None
-
-abbrev pub one_of : Value → Option ℕ
-one_of (Words words) = one_in words
-one_of (Range lo hi) = None
-one_of Ret = None
-
--- a value is exactly the word 0
-abbrev pub is_zero_word : Option ℕ → Bool
-is_zero_word None = false
-is_zero_word (Some w) = w == 0
-
-abbrev pub is_zero : Value → Bool
-is_zero v = is_zero_word (one_of v)
+result_of Mul carry x y = product_of x y
 
 -- the operations whose left side stays where the right side is 0
 abbrev pub copies_left : Op → Bool
@@ -60,6 +44,7 @@ copies_left Srl = false
 copies_left Sra = false
 copies_left Addx = false
 copies_left Subx = false
+copies_left Mul = false
 
 -- the operations whose right side stays where the left side is 0
 abbrev pub copies_right : Op → Bool
@@ -76,6 +61,7 @@ copies_right Srl = false
 copies_right Sra = false
 copies_right Addx = false
 copies_right Subx = false
+copies_right Mul = false
 
 -- the side that is copied, where the other is 0
 abbrev pub copied_of : Op → Value → Value → Option Value
@@ -118,18 +104,63 @@ pub record IsTwice (t : List ℕ) (op : Op) (a b v : Value) : Type 0 where
   pub first : IsStep t op a b between
   pub second : IsStep t op between (Words (0 ∷ 1 ∷ [])) v
 
+-- the operation that is taken twice for one with a carry
+abbrev pub carried_of : Op → Option Op
+carried_of Add = None
+carried_of Sub = None
+carried_of And = None
+carried_of Or = None
+carried_of Xor = None
+carried_of Andn = None
+carried_of Orn = None
+carried_of Xnor = None
+carried_of Sll = None
+carried_of Srl = None
+carried_of Sra = None
+carried_of Addx = Some Add
+carried_of Subx = Some Sub
+carried_of Mul = None
+
 -- What an operation on two values comes to. The carry is 0 or 1.
 abbrev pub IsApplied : List ℕ → Op → Value → Value → Value → Type 0
-IsApplied t Add a b v = IsStep t Add a b v
-IsApplied t Sub a b v = IsStep t Sub a b v
-IsApplied t And a b v = IsStep t And a b v
-IsApplied t Or a b v = IsStep t Or a b v
-IsApplied t Xor a b v = IsStep t Xor a b v
-IsApplied t Andn a b v = IsStep t Andn a b v
-IsApplied t Orn a b v = IsStep t Orn a b v
-IsApplied t Xnor a b v = IsStep t Xnor a b v
-IsApplied t Sll a b v = IsStep t Sll a b v
-IsApplied t Srl a b v = IsStep t Srl a b v
-IsApplied t Sra a b v = IsStep t Sra a b v
-IsApplied t Addx a b v = IsTwice t Add a b v
-IsApplied t Subx a b v = IsTwice t Sub a b v
+IsApplied t op a b v = MatchOption (carried_of op) (IsStep t op a b v) (λ base. IsTwice t base a b v)
+
+-- the same as functions
+
+-- the results of each pair of words
+abbrev pub results : Op → List ℕ → List ℕ → List ℕ
+results op xs ys = flat_map (λ x. map (result_of op false x) ys) xs
+
+-- the ends of a value, by their places
+abbrev pub ends_of : Value → Span
+ends_of v = record { low = low_end v; high = high_end v }
+
+-- the least value that has all between the ends that the sources' ends give
+abbrev pub spanned : List ℕ → Op → Value → Value → Value
+spanned t op a b = span t (row_of op (one_of b) (ends_of a) (ends_of b)).low (row_of op (one_of b) (ends_of a) (ends_of b)).high
+
+unfoldable pub computed : List ℕ → Op → Value → Value → Value
+computed t op (Words xs) (Words ys) = cover t (results op xs ys)
+computed t op (Words xs) (Range lo hi) = spanned t op (Words xs) (Range lo hi)
+computed t op (Words xs) Ret = spanned t op (Words xs) Ret
+computed t op (Range lo hi) b = spanned t op (Range lo hi) b
+computed t op Ret b = spanned t op Ret b
+
+-- what there is, else another value
+abbrev pub found_or : Option Value → Value → Value
+found_or None v = v
+found_or (Some c) v = c
+
+unfoldable pub step : List ℕ → Op → Value → Value → Value
+step t op a b = found_or (copied_of op a b) (computed t op a b)
+
+abbrev pub carry_value : Value
+carry_value = Words (0 ∷ 1 ∷ [])
+
+abbrev pub once_or_twice : Option Op → List ℕ → Op → Value → Value → Value
+once_or_twice None t op a b = step t op a b
+once_or_twice (Some base) t op a b = step t base (step t base a b) carry_value
+
+-- what an operation on two values comes to
+unfoldable pub apply : List ℕ → Op → Value → Value → Value
+apply t op a b = once_or_twice (carried_of op) t op a b

@@ -1,8 +1,8 @@
 -- The ends of a result from the ends of the sources, all by their places: 2 ^ 31 is the place of 0.
-use Rattle.std.specs.Prelude.{◌==◌, ℕ, ◌+◌, ◌-◌, ◌*◌, ◌/◌, ◌%◌, ◌^◌, ◌≤◌, min, Bool, ◌&&◌, Option, Some, None, nat_lt, nat_le, if◌then◌else◌}
+use Rattle.std.specs.Prelude.{◌==◌, ℕ, ◌+◌, ◌-◌, ◌*◌, ◌/◌, ◌%◌, ◌^◌, ◌≤◌, min, max, Bool, ◌&&◌, Option, Some, None, nat_lt, nat_le, if◌then◌else◌}
 use Rattle.value_ops.specs.declared.op.Op.{Op}
 use Rattle.value_ops.specs.declared.rows.Span.{Span}
-use Rattle.value_ops.specs.declared.op.Op.TheVariants.{Add, Sub, And, Or, Xor, Andn, Orn, Xnor, Sll, Srl, Sra, Addx, Subx}
+use Rattle.value_ops.specs.declared.op.Op.TheVariants.{Add, Sub, And, Or, Xor, Andn, Orn, Xnor, Sll, Srl, Sra, Addx, Subx, Mul}
 
 -- a span has a word
 abbrev pub IsFilled : Span → Type 0
@@ -62,6 +62,24 @@ abbrev pub signed_shifts : ℕ → Span → Span
 signed_shifts n a =
     record { low = a.low / 2 ^ n + 2 ^ 31 - 2 ^ 31 / 2 ^ n; high = a.high / 2 ^ n + 2 ^ 31 - 2 ^ 31 / 2 ^ n }
 
+-- The product of the numbers at two places, plus 2 ^ 62: so products are ordered as these are, and none is negative.
+unfoldable pub product_key : ℕ → ℕ → ℕ
+product_key k m = k * m + 2 ^ 63 - 2 ^ 31 * (k + m)
+
+-- the least and the greatest product of an end of one side and an end of the other
+abbrev pub least_product : Span → Span → ℕ
+least_product a b = min (min (product_key a.low b.low) (product_key a.low b.high)) (min (product_key a.high b.low) (product_key a.high b.high))
+
+abbrev pub greatest_product : Span → Span → ℕ
+greatest_product a b = max (max (product_key a.low b.low) (product_key a.low b.high)) (max (product_key a.high b.low) (product_key a.high b.high))
+
+-- from the least to the greatest product of the ends, where all fit
+abbrev pub products : Span → Span → Span
+products a b =
+    if nat_le (2 ^ 62 - 2 ^ 31) (least_product a b) && nat_lt (greatest_product a b) (2 ^ 62 + 2 ^ 31)
+    then record { low = least_product a b - (2 ^ 62 - 2 ^ 31); high = greatest_product a b - (2 ^ 62 - 2 ^ 31) }
+    else all
+
 -- a shift by the low five bits of one word; all words for more than one
 abbrev pub shifts : (ℕ → Span → Span) → Option ℕ → Span → Span
 shifts by None a = all
@@ -82,3 +100,4 @@ row_of Orn one a b = all
 row_of Xnor one a b = all
 row_of Addx one a b = all
 row_of Subx one a b = all
+row_of Mul one a b = products a b

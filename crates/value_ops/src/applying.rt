@@ -1,7 +1,7 @@
 ghost use Rattle.std.specs.Prelude.{◌≡◌, ◌∷◌, [], IfOk};
 ghost use Rattle.value_lattice.specs.Ends.{AreEnds};
 ghost use Rattle.value_lattice.specs.Value.{IsValue, IsOver, IsLeast};
-ghost use Rattle.value_ops.specs.Operation.{IsApplied, IsStep, IsTwice, IsSpanned, IsComputed, IsPointwise, copies_left, copies_right, one_in, one_of, is_zero};
+ghost use Rattle.value_ops.specs.Operation.{IsApplied, IsStep, IsTwice, IsSpanned, IsComputed, IsPointwise, apply, carried_of, copies_left, copies_right};
 ghost use Rattle.value_ops.specs.Row.{IsFilled};
 
 use crate::Op;
@@ -11,37 +11,6 @@ use crate::runs::results_of_runs;
 use bt_base::Want;
 use std::alloc::Global;
 use value_lattice::{Thresholds, Value, Words, cover, span_of_places};
-
-/// The one word of rising words, if there is one.
-fn one_in(words: &[u32]) -> Option<u32>
-    ensures { result ≡ one_in words.now }
-{
-    match words {
-        [only] => Some(*only),
-        _ => None,
-    }
-}
-
-/// The one word of a value, if it is a set of one.
-fn one_of(v: &Value) -> Option<u32>
-    ensures { result ≡ one_of v.now }
-{
-    match v {
-        Value::Words(words) => one_in(words.members()),
-        Value::Range { .. } => None,
-        Value::Ret => None,
-    }
-}
-
-/// Whether a value is exactly the word 0.
-fn is_zero(v: &Value) -> bool
-    ensures { result ≡ is_zero v.now }
-{
-    match one_of(v) {
-        Some(word) => word == 0,
-        None => false,
-    }
-}
 
 /// The ends of a value, by their places.
 fn span_of(v: &Value) -> Span
@@ -59,7 +28,7 @@ fn spanned(alloc: Global, op: Op, a: &Value, b: &Value, t: &Thresholds) -> Resul
     requires right { IsValue b.now }
     ensures { IfOk result (IsSpanned t.now op a.now b.now) }
 {
-    let ends = row(op, one_of(b), span_of(a), span_of(b));
+    let ends = row(op, b.one_word(), span_of(a), span_of(b));
     span_of_places(alloc, ends.low, ends.high, t)
 }
 
@@ -133,10 +102,10 @@ fn step(alloc: Global, op: Op, a: &Value, b: &Value, t: &Thresholds) -> Result<V
     ensures step { IfOk result (IsStep t.now op a.now b.now) }
     ensures over { IfOk result (IsOver t.now) }
 {
-    if copies_left(op) && is_zero(b) {
+    if copies_left(op) && b.is_zero() {
         return a.copy(alloc);
     }
-    if copies_right(op) && is_zero(a) {
+    if copies_right(op) && a.is_zero() {
         return b.copy(alloc);
     }
     computed(alloc, op, a, b, t)
@@ -161,6 +130,17 @@ fn twice(alloc: Global, op: Op, a: &Value, b: &Value, t: &Thresholds) -> Result<
     step(alloc, op, &between, &carry, t)
 }
 
+/// The operation that is taken twice for one with a carry.
+fn carried_of(op: Op) -> Option<Op>
+    ensures { result ≡ carried_of op }
+{
+    match op {
+        Op::Addx => Some(Op::Add),
+        Op::Subx => Some(Op::Sub),
+        _ => None,
+    }
+}
+
 /// The result of an operation on what its sources may be.
 ///
 /// A sum or an or with 0 is the other side, and a difference less 0 its left side. Two sets of words give the
@@ -170,11 +150,12 @@ pub fn apply(alloc: Global, op: Op, a: &Value, b: &Value, t: &Thresholds) -> Res
     requires left { IsOver t.now a.now }
     requires right { IsOver t.now b.now }
     ensures applied { IfOk result (IsApplied t.now op a.now b.now) }
+    ensures value { IfOk result (λ v. v ≡ apply t.now op a.now b.now) }
     ensures over { IfOk result (IsOver t.now) }
 {
-    match op {
-        Op::Addx => twice(alloc, Op::Add, a, b, t),
-        Op::Subx => twice(alloc, Op::Sub, a, b, t),
-        _ => step(alloc, op, a, b, t),
+    t.are_thresholds();
+    match carried_of(op) {
+        Some(base) => twice(alloc, base, a, b, t),
+        None => step(alloc, op, a, b, t),
     }
 }

@@ -1,16 +1,8 @@
 ghost use Rattle.std.specs.Prelude.{◌≡◌, false};
 ghost use Rattle.value_ops.specs.Operation.{result_of};
-ghost use Rattle.word_ops.specs.Word.{complement_of};
 
 use crate::Op;
-use word_ops::{difference, shift_left, shift_right, shift_right_signed, sum};
-
-/// Every bit turned over.
-fn complement(x: u32) -> u32
-    ensures { result ≡ complement_of x }
-{
-    x ^ u32::MAX
-}
+use word_ops::{complement, difference, product, shift_left, shift_right, shift_right_signed, sum};
 
 /// The result of an operation on two words; the carry is 0.
 pub(crate) fn compute(op: Op, x: u32, y: u32) -> u32
@@ -30,5 +22,6 @@ pub(crate) fn compute(op: Op, x: u32, y: u32) -> u32
         Op::Sra => shift_right_signed(x, y),
         Op::Addx => sum(x, y, false),
         Op::Subx => difference(x, y, false),
+        Op::Mul => product(x, y),
     }
 }

@@ -10,7 +10,9 @@ mod rows;
 mod runs;
 
 pub use applying::apply;
-pub use laws::{operations_are_monotone, results_are_covered};
+pub use laws::{
+    apply_is_monotone, apply_is_one, operations_are_monotone, results_are_covered,
+};
 pub use op::Op;
 
 #[cfg(test)]

@@ -1,4 +1,4 @@
-/// An operation on two words, and for the last two on the carry.
+/// An operation on two words, and for `Addx` and `Subx` on the carry.
 #[derive(Clone, Copy, Debug, PartialEq, Eq)]
 pub enum Op {
     Add,
@@ -18,4 +18,6 @@ pub enum Op {
     Addx,
     /// Subtracts the carry too.
     Subx,
+    /// The low 32 bits of the product.
+    Mul,
 }

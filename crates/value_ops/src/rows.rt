@@ -1,10 +1,13 @@
 ghost use Rattle.std.specs.Prelude.{◌≡◌, ◌*◌, ◌^◌, ◌<◌, ◌≤◌, Option, true};
-ghost use Rattle.value_ops.specs.Row.{IsFilled, sums, differences, conjunctions, left_conjunctions, scales, scaled, left_shifts, right_shifts, signed_shifts, row_of};
+ghost use Rattle.value_ops.specs.Row.{IsFilled, sums, differences, conjunctions, left_conjunctions, product_key, least_product, greatest_product, products, scales, scaled, left_shifts, right_shifts, signed_shifts, row_of};
 
 use crate::Op;
 
 /// The place of 0 in the order of words that are read with sign.
 const ZERO: u32 = 0x8000_0000;
+
+/// The key of the least product of two numbers that fits 32 bits with sign.
+const LEAST_KEY: u128 = 0x3fff_ffff_8000_0000;
 
 /// The words from the one place to the other, in the order of words that are read with sign.
 #[derive(Clone, Copy, Debug, PartialEq, Eq)]
@@ -87,6 +90,37 @@ fn left_conjunctions(a: Span) -> Span
         Span {
             low: ZERO,
             high: a.high,
+        }
+    } else {
+        ALL
+    }
+}
+
+/// The product of the numbers at two places, plus 2^62.
+fn product_key(k: u32, m: u32) -> u128
+    ensures { result ≡ product_key k m }
+{
+    let places = u128::from(k) + u128::from(m);
+    u128::from(k) * u128::from(m) + 0x8000_0000_0000_0000 - 0x8000_0000 * places
+}
+
+/// From the least to the greatest product of the ends, where all fit.
+fn products(a: Span, b: Span) -> Span
+    requires left { IsFilled a }
+    requires right { IsFilled b }
+    ensures value { result ≡ products a b }
+    ensures filled { IsFilled result }
+{
+    let first = product_key(a.low, b.low);
+    let second = product_key(a.low, b.high);
+    let third = product_key(a.high, b.low);
+    let fourth = product_key(a.high, b.high);
+    let low = first.min(second).min(third.min(fourth));
+    let high = first.max(second).max(third.max(fourth));
+    if LEAST_KEY <= low && high < LEAST_KEY + 0x1_0000_0000 {
+        Span {
+            low: (low - LEAST_KEY) as u32,
+            high: (high - LEAST_KEY) as u32,
         }
     } else {
         ALL
@@ -220,5 +254,6 @@ pub(crate) fn row(op: Op, one: Option<u32>, a: Span, b: Span) -> Span
         Op::Xnor => ALL,
         Op::Addx => ALL,
         Op::Subx => ALL,
+        Op::Mul => products(a, b),
     }
 }

@@ -1,4 +1,5 @@
 -- Refinement covers, is monotone, and is one.
+use Rattle.value_lattice.proofs.MayLemmas.{some_word_of, may_from_has, may_have_more, least_or_none_of_same, only_word, least_is_one, less_from_least, covered_some, zero_is, zero_below, has_any, all_is_left}
 use Rattle.std.proofs.Common.{◌≡◌, ℕ, zero, suc, ◌%◌, ◌^◌, ◌<◌, ◌⊎◌, ◌↔◌, Bool, true, false, not, List, [], ◌∷◌, get_or, Option, Some, None, refl, sym, ap, subst, ◌∙◌, inl, inr, arith, All, Contains}
 use Rattle.std.specs.Prelude.{◌==◌}
 use Rattle.std.specs.List.Sorted.{IsStrictlyIncreasing}
@@ -6,63 +7,20 @@ use Rattle.std.proofs.lemmas.Bool.{both_ways, cases_Bool, false≢true, true≢f
 use Rattle.std.proofs.lemmas.List.Elements.{All-contains, Contains-get_or}
 use Rattle.value_lattice.specs.Laws.{AreMore}
 use Rattle.value_lattice.specs.Set.{IsSet}
-use Rattle.value_lattice.specs.Value.{Has, AtMost, IsValue, IsOver, IsLeast, IsBetween}
+use Rattle.value_lattice.specs.Value.{Has, AtMost, IsValue, IsOver, IsLeast, IsBetween, HasSome, IsLess, MayHave, IsLeastOrNone, is_zero}
 use Rattle.value_lattice.specs.declared.value.Value.{Value}
 use Rattle.value_lattice.specs.declared.value.Value.TheVariants.{Words, Range, Ret}
 use Rattle.value_lattice.proofs.JoinLemmas.{no_ret_in_set}
 use Rattle.value_lattice.proofs.ValueLemmas.{no_range_in_set, over_more, least_is_monotone, same_value}
-use Rattle.value_refine.specs.Laws.{HasSome, IsLess}
-use Rattle.value_refine.specs.Refinement.{MayHave, IsPossible, IsWithin, IsLeastOrNone, IsRefined, is_zero, is_left_alone}
-use Rattle.value_refine.proofs.RefineLemmas.{some_word_of, may_have, may_have_more, least_or_none_of_same}
+use Rattle.value_refine.specs.Refinement.{IsPossible, IsWithin, IsRefined, is_left_alone}
 use Rattle.word_ops.specs.Condition.{holds_of}
 use Rattle.word_ops.specs.Flags.{difference_flags_of}
-
--- a word alone is a set
-pub one_set : (w : ℕ) → w < 2 ^ 32 → IsSet (w ∷ [])
-one_set w word = record { some = omega arith; few = omega arith; rising = rises; fits = fit } where
-  rises : IsStrictlyIncreasing (w ∷ [])
-  rises k within = absurd (omega arith)
-
-  fit : All (λ v. v < 2 ^ 32) (w ∷ [])
-  fit zero d within = word
-  fit (suc k) d within = absurd (omega arith)
-
-only_word : (w v : ℕ) → Contains (w ∷ []) v → v ≡ w
-only_word w v (zero, within, is) = sym is
-only_word w v (suc k, within, is) = absurd (omega arith)
-
--- nothing is least where there is no word
-pub least_has_some : (t : List ℕ) (kind : ℕ → Type 0) (v : Value) → ((w : ℕ) → w < 2 ^ 32 → kind w → ⊥) → IsLeast t kind v → ⊥
-least_has_some t kind v none least =
-    let one = some_word_of v least.over.value in
-    let zero_is : one.word ≡ 0 = only_word 0 one.word ((below 0 (omega arith)).words one.word one.word one.fits one.fits one.has) in
-    let one_is : one.word ≡ 1 = only_word 1 one.word ((below 1 (omega arith)).words one.word one.word one.fits one.fits one.has) in
-    omega arith where
-      below : (w : ℕ) → w < 2 ^ 32 → AtMost v (Words (w ∷ []))
-      below w word = least.least (Words (w ∷ [])) (record { value = one_set w word; ends = tt }) (record { words = λ x ra x_word address is. absurd (none x x_word is) })
-
-pub least_is_one : (t : List ℕ) (kind : ℕ → Type 0) (r s : Option Value) → IsLeastOrNone t kind r → IsLeastOrNone t kind s → r ≡ s
-least_is_one t kind None None none other = refl
-least_is_one t kind None (Some v) none least = absurd (least_has_some t kind v none least)
-least_is_one t kind (Some u) None least none = absurd (least_has_some t kind u none least)
-least_is_one t kind (Some u) (Some v) one other =
-    ap (λ (x : Value). Some x) (same_value u v one.over.value other.over.value (one.least v other.over other.each) (other.least u one.over one.each))
-
-pub less_from_least : (t more : List ℕ) (kind wider : ℕ → Type 0) (r s : Option Value) → AreMore t more → ((w : ℕ) → w < 2 ^ 32 → kind w → wider w) → IsLeastOrNone t wider r → IsLeastOrNone more kind s → IsLess s r
-less_from_least t more kind wider r None in_more in_wider wide narrow = tt
-less_from_least t more kind wider None (Some u) in_more in_wider wide narrow = absurd (least_has_some more kind u (λ w word is. wide w word (in_wider w word is)) narrow)
-less_from_least t more kind wider (Some v) (Some u) in_more in_wider wide narrow = least_is_monotone t more kind wider u v in_more.thresholds in_wider narrow wide
-
--- what is left has each word that is possible
-covered_some : (t : List ℕ) (kind : ℕ → Type 0) (r : Option Value) (x ra : ℕ) → IsLeastOrNone t kind r → x < 2 ^ 32 → ra < 2 ^ 32 → kind x → HasSome r x ra
-covered_some t kind None x ra none word address is = none x word is
-covered_some t kind (Some v) x ra least word address is = least.each.words x ra word address is
 
 pub refined_covers : (t : List ℕ) (condition : ℕ) (truth : Bool) (a b : Value) (r : Option Value) (x y ra : ℕ) → IsRefined t condition truth a b r → x < 2 ^ 32 → y < 2 ^ 32 → ra < 2 ^ 32 → Has a x ra → Has b y ra → holds_of condition (difference_flags_of x y false) ≡ truth → HasSome r x ra
 refined_covers t condition truth a b r x y ra refined xw yw address has_x has_y holds =
     elim (cases_Bool (is_left_alone condition b)) [
       | inl alone ↦ subst (λ (s : Option Value). HasSome s x ra) (sym (refined.alone alone)) has_x
-      | inr rest ↦ covered_some t (IsPossible condition truth a b) r x ra (refined.rest rest) xw address (record { has = may_have a x ra address has_x; other = y; fits = yw; there = may_have b y ra address has_y; is = holds })
+      | inr rest ↦ covered_some t (IsPossible condition truth a b) r x ra (refined.rest rest) xw address (record { has = may_from_has a x ra address has_x; other = y; fits = yw; there = may_from_has b y ra address has_y; is = holds })
     ]
 
 pub refined_is_one : (t : List ℕ) (condition : ℕ) (truth : Bool) (a b : Value) (r s : Option Value) → IsRefined t condition truth a b r → IsRefined t condition truth a b s → r ≡ s
@@ -71,28 +29,6 @@ refined_is_one t condition truth a b r s one other =
       | inl alone ↦ one.alone alone ∙ sym (other.alone alone)
       | inr rest ↦ least_is_one t (IsPossible condition truth a b) r s (one.rest rest) (other.rest rest)
     ]
-
--- a value below one that is exactly 0 is exactly 0
-zero_is : (v : Value) → is_zero v ≡ true → v ≡ Words (0 ∷ [])
-zero_is (Words []) is = absurd (false≢true is)
-zero_is (Words (w ∷ [])) is = ap (λ (n : ℕ). Words (n ∷ [])) (eqb-true w 0 is)
-zero_is (Words (w ∷ v ∷ rest)) is = absurd (false≢true is)
-zero_is (Range lo hi) is = absurd (false≢true is)
-zero_is Ret is = absurd (false≢true is)
-
-below_zero : (d : Value) → IsValue d → AtMost d (Words (0 ∷ [])) → d ≡ Words (0 ∷ [])
-below_zero (Words words) value up =
-    let first : Contains words (get_or words 0 0) = Contains-get_or words 0 0 value.some in
-    let word : get_or words 0 0 < 2 ^ 32 = All-contains (λ w. w < 2 ^ 32) words (get_or words 0 0) value.fits first in
-    let none : get_or words 0 0 ≡ 0 = only_word 0 (get_or words 0 0) (up.words (get_or words 0 0) 0 word (omega arith) first) in
-    same_value (Words words) (Words (0 ∷ [])) value (one_set 0 (omega arith)) up (record { words = λ w ra w_word address has. subst (Contains words) (none ∙ sym (only_word 0 w has)) first })
-below_zero (Range lo hi) value up = absurd (no_range_in_set lo hi (0 ∷ []) value (one_set 0 (omega arith)) up)
-below_zero Ret value up = absurd (no_ret_in_set (0 ∷ []) (one_set 0 (omega arith)) up)
-
-zero_below : (d b : Value) → IsValue d → AtMost d b → is_zero b ≡ true → is_zero d ≡ true
-zero_below d b value up is =
-    let same : d ≡ Words (0 ∷ []) = below_zero d value (subst (λ (v : Value). AtMost d v) (zero_is b is) up) in
-    subst (λ (v : Value). is_zero v ≡ true) (sym same) refl
 
 -- a side that is left alone against less is left alone against more
 alone_above : (condition : ℕ) (d b : Value) → IsValue d → AtMost d b → is_left_alone condition d ≡ true → is_left_alone condition b ≡ true
@@ -108,12 +44,6 @@ alone_above condition d b value up alone =
         | inr not_six ↦ absurd (false≢true (rw (others, not_six) at alone))
       ]
     ]
-
--- a word that a value may have is one that it has, where the value isn't the return address
-pub has_any : (v : Value) (w ra : ℕ) → (v ≡ Ret → ⊥) → MayHave v w → Has v w ra
-has_any (Words words) w ra no_ret may = may.has
-has_any (Range lo hi) w ra no_ret may = may.has
-has_any Ret w ra no_ret may = absurd (no_ret refl)
 
 rest_is_less : (t more : List ℕ) (condition : ℕ) (truth : Bool) (a c d : Value) (s : Option Value) → AreMore t more → IsOver t a → (a ≡ Ret → ⊥) → AtMost c a → IsLeastOrNone more (IsPossible condition truth c d) s → IsLess s (Some a)
 rest_is_less t more condition truth a c d None in_more over no_ret left none = tt
@@ -138,19 +68,11 @@ pub within_monotone : (t more : List ℕ) (low high : ℕ) (a c : Value) (r s : 
 within_monotone t more low high a c r s in_more left wide narrow =
     less_from_least t more (IsWithin c low high) (IsWithin a low high) r s in_more (λ w word is. record { has = may_have_more c a w word left is.has; between = is.between }) wide narrow
 
--- the words that a value may have are those that it is least of
-all_is_left : (t : List ℕ) (a : Value) → IsOver t a → (a ≡ Ret → ⊥) → IsLeast t (MayHave a) a
-all_is_left t a over no_ret = record {
-  over = over;
-  each = record { words = λ w ra word address may. has_any a w ra no_ret may };
-  least = λ u over_u each. record { words = λ w ra word address has. each.words w ra word address (may_have a w ra address has) };
-}
-
 all_possible : (t : List ℕ) (condition : ℕ) (truth : Bool) (a b : Value) (r : Option Value) → IsOver t a → IsOver t b → (a ≡ Ret → ⊥) → is_left_alone condition b ≡ false → ((x y : ℕ) → holds_of condition (difference_flags_of x y false) ≡ truth) → IsRefined t condition truth a b r → r ≡ Some a
 all_possible t condition truth a b r oa ob no_ret rest always refined =
     let one = some_word_of b ob.value in
     least_is_one t (MayHave a) r (Some a)
-    (least_or_none_of_same t (IsPossible condition truth a b) (MayHave a) r (λ w word is. is.has) (λ w word may. record { has = may; other = one.word; fits = one.fits; there = may_have b one.word one.word one.fits one.has; is = always w one.word }) (refined.rest rest))
+    (least_or_none_of_same t (IsPossible condition truth a b) (MayHave a) r (λ w word is. is.has) (λ w word may. record { has = may; other = one.word; fits = one.fits; there = may_from_has b one.word one.word one.fits one.has; is = always w one.word }) (refined.rest rest))
     (all_is_left t a oa no_ret)
 
 none_possible : (t : List ℕ) (condition : ℕ) (truth : Bool) (a b : Value) (r : Option Value) → is_left_alone condition b ≡ false → ((x y : ℕ) → holds_of condition (difference_flags_of x y false) ≡ truth → ⊥) → IsRefined t condition truth a b r → r ≡ None
@@ -176,7 +98,7 @@ sign_is_of_zero condition right y rest may six =
     ]
 
 pub within_covers : (t : List ℕ) (low high : ℕ) (a : Value) (r : Option Value) (x ra : ℕ) → IsLeastOrNone t (IsWithin a low high) r → x < 2 ^ 32 → ra < 2 ^ 32 → Has a x ra → IsBetween low high x → HasSome r x ra
-within_covers t low high a r x ra least word address has between = covered_some t (IsWithin a low high) r x ra least word address (record { has = may_have a x ra address has; between = between })
+within_covers t low high a r x ra least word address has between = covered_some t (IsWithin a low high) r x ra least word address (record { has = may_from_has a x ra address has; between = between })
 
 -- conditions that are the same for the words of the two sides leave the same
 same_refined : (t : List ℕ) (condition other : ℕ) (truth : Bool) (a b : Value) (r : Option Value) → is_left_alone condition b ≡ false → is_left_alone other b ≡ false → ((x y : ℕ) → x < 2 ^ 32 → MayHave b y → holds_of condition (difference_flags_of x y false) ≡ holds_of other (difference_flags_of x y false)) → IsRefined t condition truth a b r → IsRefined t other truth a b r

@@ -3,3 +3,4 @@ pub mod LawLemmas
 pub mod ReachLemmas
 pub mod RefineLemmas
 pub mod RegionLemmas
+pub mod RefineFunctions

@@ -1,4 +1,5 @@
 -- Which words some word of a value compares with so: the ends of the value decide.
+use Rattle.value_lattice.proofs.MayLemmas.{some_word_of}
 use Rattle.std.proofs.Common.{◌≡◌, ℕ, ◌-◌, ◌^◌, ◌<◌, ◌≤◌, ◌↔◌, Bool, true, false, List, length, get_or, refl, sym, ap, subst, ◌∙◌, inl, inr, ⊎_elim, arith}
 use Rattle.std.specs.Prelude.{ℤ, eqb}
 use Rattle.std.proofs.lemmas.Bool.{ltb-true, ltb-false, leb-true, leb-false, lt-ltb, le-ltb, le-leb, lt-leb, cases_lt, eqb-true, eq-eqb, ne_eqb, both_ways}
@@ -6,7 +7,7 @@ use Rattle.std.proofs.lemmas.List.Elements.{All-contains, Contains-get_or}
 use Rattle.value_lattice.specs.Ends.{AreEnds}
 use Rattle.value_lattice.specs.Order.{place_of, word_at, rank_of}
 use Rattle.value_lattice.specs.Set.{IsSet}
-use Rattle.value_lattice.specs.Value.{IsValue, IsBetween}
+use Rattle.value_lattice.specs.Value.{IsValue, IsBetween, MayHave}
 use Rattle.value_lattice.specs.declared.value.Value.{Value}
 use Rattle.value_lattice.specs.declared.value.Value.TheVariants.{Words, Range}
 use Rattle.value_lattice.proofs.JoinLemmas.{between_ends}
@@ -14,12 +15,11 @@ use Rattle.value_lattice.proofs.SetLemmas.{place_of-word_at, word_at_below}
 use Rattle.value_lattice.proofs.ThresholdLemmas.{non_decreasing, at_zero}
 use Rattle.value_refine.specs.Comparison.{orders, relates, IsReached, HasAt, AreEndsBy, AreWordEnds, IsOrdered, by_place, by_word}
 use Rattle.value_refine.specs.Interval.{IsIn}
-use Rattle.value_refine.specs.Refinement.{MayHave}
 use Rattle.value_refine.specs.declared.comparison.Comparison.{Comparison}
 use Rattle.value_refine.specs.declared.comparison.Relation.{Relation}
 use Rattle.value_refine.specs.declared.comparison.Relation.TheVariants.{Never, Equal, LessOrEqual, Less, LessOrEqualUnsigned, LessUnsigned}
 use Rattle.value_refine.specs.declared.interval.Interval.{Interval}
-use Rattle.value_refine.proofs.RefineLemmas.{least_place, greatest_place, some_word_of}
+use Rattle.value_refine.proofs.RefineLemmas.{least_place, greatest_place}
 
 -- the four orders, by the ends
 pub less_than_some : (i : Interval) (k : ℕ) → i.low ≤ i.high → (k < i.high) ↔ IsOrdered true true i k

@@ -1,4 +1,5 @@
 -- Words that values may have, and what is least of them.
+use Rattle.value_lattice.proofs.MayLemmas.{least_or_none_of_same}
 use Rattle.std.proofs.Common.{◌≡◌, ℕ, ◌+◌, ◌^◌, ◌<◌, ◌≤◌, ◌⊎◌, ◌↔◌, List, [], ◌∷◌, length, get_or, ◌++◌, Option, Some, None, Result, IfOk, refl, sym, subst, inl, inr, ⊎_elim, arith, Contains}
 use Rattle.std.specs.Prelude.{ℤ}
 use Rattle.std.proofs.lemmas.List.Elements.{All-contains, Contains-get_or, Contains-append_left, Contains-push, Contains-push_cases}
@@ -7,38 +8,16 @@ use Rattle.std.proofs.lemmas.Result.{IfOk-weaker}
 use Rattle.std.proofs.lemmas.List.{get_or_default}
 use Rattle.value_lattice.specs.Ends.{AreEnds}
 use Rattle.value_lattice.specs.Order.{place_of, word_at, rank_of}
-use Rattle.value_lattice.specs.Value.{Has, AtMost, IsValue, IsLeast, IsJoin}
+use Rattle.value_lattice.specs.Value.{Has, AtMost, IsValue, IsLeast, IsJoin, MayHave, IsLeastOrNone}
 use Rattle.value_lattice.specs.declared.value.Value.{Value}
 use Rattle.value_lattice.specs.declared.value.Value.TheVariants.{Words, Range, Ret}
 use Rattle.value_lattice.proofs.SetLemmas.{place_of-word_at, word_at_below}
 use Rattle.value_lattice.proofs.ValueLemmas.{least_of_same, rank_below}
 use Rattle.value_refine.specs.Interval.{IsIn}
-use Rattle.value_refine.specs.Refinement.{MayHave, IsLeastOrNone}
 use Rattle.value_refine.specs.Region.{IsInRegion}
 use Rattle.value_refine.specs.Restriction.{IsRestricted}
 use Rattle.value_refine.specs.declared.interval.Interval.{Interval}
 use Rattle.value_refine.specs.declared.region.Region.{Region}
-
--- a value has each word that it may have where that word is the return address
-pub has_itself : (v : Value) (w : ℕ) → MayHave v w → Has v w w
-has_itself (Words words) w may = may.has
-has_itself (Range lo hi) w may = may.has
-has_itself Ret w may = refl
-
-pub may_have : (v : Value) (w ra : ℕ) → ra < 2 ^ 32 → Has v w ra → MayHave v w
-may_have v w ra address has = record { address = ra; fits = address; has = has }
-
-pub may_have_itself : (v : Value) (w : ℕ) → w < 2 ^ 32 → Has v w w ↔ MayHave v w
-may_have_itself v w word = (may_have v w w word, has_itself v w)
-
--- what is at most another has no other words
-pub may_have_more : (a b : Value) (w : ℕ) → w < 2 ^ 32 → AtMost a b → MayHave a w → MayHave b w
-may_have_more a b w word up may = record { address = may.address; fits = may.fits; has = up.words w may.address word may.fits may.has }
-
--- where a kind has the same words, the same is least
-pub least_or_none_of_same : (t : List ℕ) (kind other : ℕ → Type 0) (r : Option Value) → ((w : ℕ) → w < 2 ^ 32 → kind w → other w) → ((w : ℕ) → w < 2 ^ 32 → other w → kind w) → IsLeastOrNone t kind r → IsLeastOrNone t other r
-least_or_none_of_same t kind other None there back none = λ w word is. none w word (back w word is)
-least_or_none_of_same t kind other (Some v) there back least = least_of_same t kind other v there back least
 
 -- the join of what is least of two kinds is least of both
 pub least_of_either : (t : List ℕ) (first second : ℕ → Type 0) (a b v : Value) → IsLeast t first a → IsLeast t second b → IsJoin t a b v → IsLeast t (λ w. first w ⊎ second w) v
@@ -114,31 +93,7 @@ chosen_all kind words kept i w past chosen =
 pub answer_of_same : {E : Type 0} (t : List ℕ) (kind other : ℕ → Type 0) (r : Result (Option Value) E) → ((w : ℕ) → w < 2 ^ 32 → kind w → other w) → ((w : ℕ) → w < 2 ^ 32 → other w → kind w) → IfOk r (IsLeastOrNone t kind) → IfOk r (IsLeastOrNone t other)
 answer_of_same t kind other r there back answer = IfOk-weaker r (IsLeastOrNone t kind) (IsLeastOrNone t other) (λ o. least_or_none_of_same t kind other o there back) answer
 
-pub some_least : (t : List ℕ) (kind : ℕ → Type 0) (r : Option Value) (v : Value) → r ≡ Some v → IsLeastOrNone t kind r → IsLeast t kind v
-some_least t kind r v is least = subst (IsLeastOrNone t kind) is least
-
--- the return address may be any word
-pub may_be_any : (w : ℕ) → w < 2 ^ 32 → MayHave Ret w
-may_be_any w word = record { address = w; fits = word; has = refl }
-
 pub restricted_range : (lo hi : ℤ) (region both : Region) (places : Interval) (w : ℕ) → AreEnds (Range lo hi) places.low places.high → IsInRegion both w ↔ (IsInRegion region w × IsIn places (place_of w)) → IsInRegion both w → IsRestricted (Range lo hi) region w
 restricted_range lo hi region both places w ends is_both is =
     let parts = is_both.0 is in
     record { has = record { address = 0; fits = omega arith; has = (omega (arith, ends, parts.1), omega (arith, ends, parts.1)) }; within = parts.0 }
-
--- a value has some word
-pub record HasOne (v : Value) : Type 0 where
-  pub word : ℕ
-  pub fits : word < 2 ^ 32
-  pub has : Has v word word
-
-pub some_word_of : (v : Value) → IsValue v → HasOne v
-some_word_of (Words words) value =
-    let first : Contains words (get_or words 0 0) = Contains-get_or words 0 0 value.some in
-    record { word = get_or words 0 0; fits = All-contains (λ w. w < 2 ^ 32) words (get_or words 0 0) value.fits first; has = first }
-some_word_of (Range lo hi) value =
-    let fits : rank_of hi < 2 ^ 32 = rank_below hi value.1 in
-    let far : rank_of lo + 128 ≤ rank_of hi = value.2 in
-    let at : place_of (word_at (rank_of lo)) ≡ rank_of lo = place_of-word_at (rank_of lo) (omega arith) in
-    record { word = word_at (rank_of lo); fits = word_at_below (rank_of lo); has = (omega arith, omega arith) }
-some_word_of Ret value = record { word = 0; fits = omega arith; has = refl }

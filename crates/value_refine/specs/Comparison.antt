@@ -1,9 +1,9 @@
 -- What a condition asks of two words that were compared.
+use Rattle.value_lattice.specs.Value.{MayHave}
 use Rattle.std.specs.Prelude.{◌==◌, ◌≡◌, ℕ, ◌%◌, ◌^◌, ◌<◌, ◌↔◌, ◌⊎◌, Bool, true, false, nat_lt, nat_le}
 use Rattle.value_lattice.specs.Order.{place_of}
 use Rattle.value_lattice.specs.declared.value.Value.{Value}
 use Rattle.value_refine.specs.Interval.{IsIn}
-use Rattle.value_refine.specs.Refinement.{MayHave}
 use Rattle.value_refine.specs.declared.comparison.Comparison.{Comparison}
 use Rattle.value_refine.specs.declared.comparison.Relation.{Relation}
 use Rattle.value_refine.specs.declared.comparison.Relation.TheVariants.{Never, Equal, LessOrEqual, Less, LessOrEqualUnsigned, LessUnsigned}

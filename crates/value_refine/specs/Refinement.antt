@@ -1,16 +1,13 @@
 -- What is left of a value.
-use Rattle.std.specs.Prelude.{◌==◌, ◌≡◌, ℕ, ◌%◌, ◌^◌, ◌<◌, Bool, true, false, not, List, [], ◌∷◌, Option, Some, None, if◌then◌else◌}
-use Rattle.value_lattice.specs.Value.{Has, IsLeast, IsBetween}
+use Rattle.std.specs.Prelude.{◌==◌, ◌≡◌, ℕ, ◌%◌, ◌^◌, ◌<◌, ◌&&◌, Bool, true, false, not, List, [], ◌∷◌, Option, Some, None, if◌then◌else◌}
+use Rattle.value_lattice.specs.Value.{IsBetween, MayHave, IsLeastOrNone, is_zero}
+use Rattle.value_lattice.specs.Least.{least_of}
+use Rattle.value_lattice.specs.Passing.{passes_some}
+use Rattle.value_lattice.specs.Test.{is_placed, may_have}
 use Rattle.value_lattice.specs.declared.value.Value.{Value}
 use Rattle.value_lattice.specs.declared.value.Value.TheVariants.{Words, Range, Ret}
 use Rattle.word_ops.specs.Condition.{holds_of}
 use Rattle.word_ops.specs.Flags.{difference_flags_of}
-
--- the value has the word where the return address is a certain one; so the return address may be any word
-pub record MayHave (v : Value) (w : ℕ) : Type 0 where
-  pub address : ℕ
-  pub fits : address < 2 ^ 32
-  pub has : Has v w address
 
 -- a word of the left side with which some word of the right side makes the condition what it is to be, once the
 -- two were compared
@@ -26,22 +23,6 @@ pub record IsWithin (v : Value) (low high w : ℕ) : Type 0 where
   pub has : MayHave v w
   pub between : IsBetween low high w
 
--- the least value over the thresholds that has each word of a kind, and none where there is no such word
-abbrev pub IsLeastOrNone : List ℕ → (ℕ → Type 0) → Option Value → Type 0
-IsLeastOrNone t kind None = (w : ℕ) → w < 2 ^ 32 → kind w → ⊥
-IsLeastOrNone t kind (Some v) = IsLeast t kind v
-
--- a value is exactly the word 0
-abbrev pub is_only_zero : List ℕ → Bool
-is_only_zero [] = false
-is_only_zero (w ∷ []) = w == 0
-is_only_zero (w ∷ v ∷ rest) = false
-
-abbrev pub is_zero : Value → Bool
-is_zero (Words words) = is_only_zero words
-is_zero (Range lo hi) = false
-is_zero Ret = false
-
 -- The conditions that leave the left side as it is: overflow and its negation, and the sign of a difference but
 -- that with 0.
 abbrev pub is_left_alone : ℕ → Value → Bool
@@ -52,6 +33,32 @@ is_left_alone condition right =
 pub record IsRefined (t : List ℕ) (condition : ℕ) (truth : Bool) (left right : Value) (result : Option Value) : Type 0 where
   pub alone : is_left_alone condition right ≡ true → result ≡ Some left
   pub rest : is_left_alone condition right ≡ false → IsLeastOrNone t (IsPossible condition truth left right) result
+
+-- a test answers as it is to
+abbrev pub answers : Bool → Bool → Bool
+answers b true = b
+answers b false = not b
+
+-- a word makes the condition what it is to be, once another was taken from it
+abbrev pub makes : ℕ → Bool → ℕ → ℕ → Bool
+makes condition truth x y = answers (holds_of condition (difference_flags_of x y false)) truth
+
+-- a word of the left side, with which some word of the right side makes the condition what it is to be
+abbrev pub is_possible : ℕ → Bool → Value → Value → ℕ → Bool
+is_possible condition truth left right x = may_have left x && passes_some (λ y. may_have right y && makes condition truth x y)
+
+-- what is left of the left side, as a function
+unfoldable pub refine : List ℕ → ℕ → Bool → Value → Value → Option Value
+refine t condition truth left right =
+    if is_left_alone condition right then Some left else least_of t (is_possible condition truth left right)
+
+-- a word of a value with its place between two places
+abbrev pub is_within : Value → ℕ → ℕ → ℕ → Bool
+is_within v low high w = may_have v w && is_placed low high w
+
+-- what is left of a value between two places, as a function
+unfoldable pub within : List ℕ → Value → ℕ → ℕ → Option Value
+within t v low high = least_of t (is_within v low high)
 
 -- The condition over the flags of the difference the other way round. Condition 8 stands for those that no
 -- condition over the other flags says.

@@ -1,8 +1,8 @@
 -- The words of a value that are in a region, and those that two values share.
+use Rattle.value_lattice.specs.Value.{MayHave}
 use Rattle.std.specs.Prelude.{ℕ}
 use Rattle.value_lattice.specs.declared.value.Value.{Value}
 use Rattle.value_refine.specs.Comparison.{IsReached}
-use Rattle.value_refine.specs.Refinement.{MayHave}
 use Rattle.value_refine.specs.Region.{IsInRegion}
 use Rattle.value_refine.specs.declared.comparison.Comparison.{Comparison}
 use Rattle.value_refine.specs.declared.region.Region.{Region}

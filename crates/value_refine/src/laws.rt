@@ -1,5 +1,5 @@
 //! Facts about refinement: each is the contract of a function that does nothing.
-ghost use Rattle.value_refine.specs.Laws.{MirrorExchanges, RefinementIsCovered, RefinementIsMonotone, RefinementIsOne, SignIsOrder, WithinIsCovered, WithinIsMonotone, WithinIsOne, ConstantsAreKept};
+ghost use Rattle.value_refine.specs.Laws.{MirrorExchanges, RefinementIsCovered, RefinementIsMonotone, RefinementIsOne, SignIsOrder, WithinIsCovered, WithinIsMonotone, WithinIsOne, ConstantsAreKept, RefineIsOne, RefineIsMonotone, WithinIsMonotoneAsOne};
 
 use word_ops::{comparison_is_equality, comparison_is_signed_order, comparison_is_unsigned_order};
 
@@ -53,4 +53,20 @@ pub fn within_is_monotone()
 /// What is within two numbers is one value or none, and never both.
 pub fn within_is_one()
     ensures { WithinIsOne }
+{}
+
+/// `refine` and `within` as functions of the thresholds and the sides give what is left, and nothing else is left.
+pub fn refine_is_one()
+    ensures { RefineIsOne }
+{}
+
+/// What `refine` as a function gives is at most the left side, the return address only where that is, and of less,
+/// and over more thresholds, at most what it was.
+pub fn refine_is_monotone()
+    ensures { RefineIsMonotone }
+{}
+
+/// The same of `within`, which never gives the return address.
+pub fn within_function_is_monotone()
+    ensures { WithinIsMonotoneAsOne }
 {}

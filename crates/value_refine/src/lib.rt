@@ -12,8 +12,9 @@ mod region;
 mod restricting;
 
 pub use laws::{
-    constants_are_kept, mirror_exchanges, refinement_is_covered, refinement_is_monotone,
-    refinement_is_one, sign_is_order, within_is_covered, within_is_monotone, within_is_one,
+    constants_are_kept, mirror_exchanges, refine_is_monotone, refine_is_one, refinement_is_covered,
+    refinement_is_monotone, refinement_is_one, sign_is_order, within_function_is_monotone,
+    within_is_covered, within_is_monotone, within_is_one,
 };
 pub use mirroring::mirror;
 pub use refining::refine;

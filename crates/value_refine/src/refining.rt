@@ -1,8 +1,8 @@
 ghost use Rattle.std.specs.Prelude.{◌≡◌, ℕ, ◌^◌, ◌<◌, ◌≤◌, ◌↔◌, true, false, IfOk, IfSome};
-ghost use Rattle.value_lattice.specs.Value.{IsOver, IsValue};
+ghost use Rattle.value_lattice.specs.Value.{IsOver, IsValue, IsLeastOrNone, is_zero};
 ghost use Rattle.value_refine.specs.Comparison.{IsReached, IsOrdered};
 ghost use Rattle.value_refine.specs.Interval.{IsIn};
-ghost use Rattle.value_refine.specs.Refinement.{IsLeastOrNone, IsRefined, is_only_zero, is_zero, is_left_alone};
+ghost use Rattle.value_refine.specs.Refinement.{IsRefined, is_left_alone, refine};
 ghost use Rattle.value_refine.specs.Region.{IsInRegion};
 ghost use Rattle.value_refine.specs.Restriction.{IsCompared};
 
@@ -15,34 +15,13 @@ use bt_base::Want;
 use std::alloc::Global;
 use value_lattice::{Thresholds, Value};
 
-/// Whether words are exactly the word 0.
-fn is_only_zero(words: &[u32]) -> bool
-    ensures { result ≡ is_only_zero words.now }
-{
-    match words {
-        [only] => *only == 0,
-        _ => false,
-    }
-}
-
-/// Whether a value is exactly the word 0.
-fn is_zero(v: &Value) -> bool
-    ensures { result ≡ is_zero v.now }
-{
-    match v {
-        Value::Words(words) => is_only_zero(words.members()),
-        Value::Range { .. } => false,
-        Value::Ret => false,
-    }
-}
-
 /// Whether a condition leaves the left side as it is.
 fn is_left_alone(condition: u8, right: &Value) -> bool
     ensures { result ≡ is_left_alone condition right.now }
 {
     match condition % 8 {
         7 => true,
-        6 => !is_zero(right),
+        6 => !right.is_zero(),
         _ => false,
     }
 }
@@ -133,8 +112,10 @@ pub fn refine(
     requires left { IsOver t.now left.now }
     requires right { IsOver t.now right.now }
     ensures refined { IfOk result (IsRefined t.now cond truth left.now right.now) }
+    ensures value { IfOk result (λ r. r ≡ refine t.now cond truth left.now right.now) }
     ensures over { IfOk result (λ r. IfSome r (IsOver t.now)) }
 {
+    t.are_thresholds();
     if is_left_alone(cond, right) {
         return Ok(Some(left.copy(alloc)?));
     }

@@ -1,8 +1,8 @@
-ghost use Rattle.std.specs.Prelude.{ℕ, ◌^◌, ◌<◌, ◌↔◌, IfOk, IfSome, Contains};
+ghost use Rattle.std.specs.Prelude.{◌≡◌, ℕ, ◌^◌, ◌<◌, ◌↔◌, IfOk, IfSome, Contains};
 ghost use Rattle.value_lattice.specs.Order.{rank_of};
 ghost use Rattle.value_lattice.specs.Set.{IsSet};
-ghost use Rattle.value_lattice.specs.Value.{IsOver, IsValue, IsBetween};
-ghost use Rattle.value_refine.specs.Refinement.{MayHave, IsWithin, IsLeastOrNone};
+ghost use Rattle.value_lattice.specs.Value.{IsOver, IsValue, IsBetween, MayHave, IsLeastOrNone};
+ghost use Rattle.value_refine.specs.Refinement.{IsWithin, within};
 ghost use Rattle.value_refine.specs.Region.{IsInRegion};
 ghost use Rattle.value_refine.specs.Restriction.{IsRestricted, IsShared};
 
@@ -142,7 +142,9 @@ pub fn within(
 ) -> Result<Option<Value>, Want>
     requires { IsOver t.now a.now }
     ensures within { IfOk result (IsLeastOrNone t.now (IsWithin a.now (rank_of lo) (rank_of hi))) }
+    ensures value { IfOk result (λ r. r ≡ within t.now a.now (rank_of lo) (rank_of hi)) }
     ensures over { IfOk result (λ r. IfSome r (IsOver t.now)) }
 {
+    t.are_thresholds();
     within_places(alloc, a, rank(lo), rank(hi), t)
 }

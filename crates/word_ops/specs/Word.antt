@@ -35,6 +35,10 @@ abbrev pub difference_overflows : ℕ → ℕ → Bool → Bool
 difference_overflows x y borrow =
     not (nat_le (key y + bit_of borrow) (key x + 2 ^ 31) && nat_lt (key x) (key y + bit_of borrow + 2 ^ 31))
 
+-- the low 32 bits of the product of two words
+abbrev pub product_of : ℕ → ℕ → ℕ
+product_of x y = x * y % 2 ^ 32
+
 -- every bit turned over
 abbrev pub complement_of : ℕ → ℕ
 complement_of x = bit_xor x (2 ^ 32 - 1)

@@ -1,6 +1,6 @@
 ghost use Rattle.std.specs.Prelude.{◌≡◌, ◌≤◌};
 ghost use Rattle.word_ops.specs.Flags.{sum_flags_of, difference_flags_of, logic_flags_of};
-ghost use Rattle.word_ops.specs.Word.{key, bit_of, sum_of, difference_of, sum_overflows, difference_overflows};
+ghost use Rattle.word_ops.specs.Word.{key, bit_of, sum_of, difference_of, product_of, sum_overflows, difference_overflows};
 
 /// The integer condition codes.
 #[derive(Clone, Copy, Debug, PartialEq, Eq)]
@@ -40,6 +40,13 @@ pub fn difference(x: u32, y: u32, borrow: bool) -> u32
     } else {
         difference
     }
+}
+
+/// The low 32 bits of the product of two words: the same with sign and without.
+pub fn product(x: u32, y: u32) -> u32
+    ensures { result ≡ product_of x y }
+{
+    x.wrapping_mul(y)
 }
 
 /// A carry or a borrow as a number.

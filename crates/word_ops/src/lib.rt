@@ -7,13 +7,16 @@
 mod arithmetic;
 mod conditions;
 mod laws;
+mod logic;
 mod shifts;
 #[cfg(test)]
 mod tests;
 
 pub use arithmetic::{
-    Flags, difference, difference_flags, logic_flags, overflows_down, overflows_up, sum, sum_flags,
+    Flags, difference, difference_flags, logic_flags, overflows_down, overflows_up, product, sum,
+    sum_flags,
 };
 pub use conditions::holds;
 pub use laws::{comparison_is_equality, comparison_is_signed_order, comparison_is_unsigned_order};
+pub use logic::complement;
 pub use shifts::{shift_left, shift_right, shift_right_signed};

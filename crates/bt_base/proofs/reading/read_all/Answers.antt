@@ -1,4 +1,5 @@
 use Rattle.std.proofs.Common.{◌∙◌, refl, arith}
+use Rattle.bt_base.proofs.Asks.{read_none, read_more, reading_more}
 use Rattle.bt_base.proofs.Fronts.{front_none, within_none, front_more, within_more, front_all, past_limit}
 use Rattle.bt_base.proofs.reading.read_all.Goals as goal
 
@@ -8,6 +9,7 @@ loop-shelf-init g c = record {
   counts = λ _. omega arith;
   piece = c.in-Ok.ensures.len;
   front = front_none _ _ _ c.new-bytes.ensures.items c.new-bytes.ensures.len;
+  asked = read_none _ _ _ _ c.new-bytes.ensures.len;
   within = within_none _ _ c.new-bytes.ensures.len;
 }
 
@@ -16,6 +18,18 @@ returns-in_err-count-clause-same g c = λ name. c.in_err-count.ensures.same name
 
 pub returns-then-count-eq0-clause-same : goal.returns-then-count-eq0-clause-same
 returns-then-count-eq0-clause-same g c = λ name. c.in_ok-count.ensures.same name ∙ c.loop-shelf.invariant.same name
+
+pub returns-in_err-count-clause-asked : goal.returns-in_err-count-clause-asked
+returns-in_err-count-clause-asked g c =
+    reading_more _ _ _ _ _ _ c.loop-shelf.invariant.asked (omega arith) c.in_err-count.ensures.asked
+
+pub returns-then-count-eq0-clause-asked : goal.returns-then-count-eq0-clause-asked
+returns-then-count-eq0-clause-asked g c =
+    reading_more _ _ _ _ _ _ c.loop-shelf.invariant.asked (omega arith) c.in_ok-count.ensures.asked
+
+pub returns-then-count-eq0-clause-gave : goal.returns-then-count-eq0-clause-gave
+returns-then-count-eq0-clause-gave g c =
+    read_more _ _ _ _ _ _ _ _ c.loop-shelf.invariant.asked (omega arith) c.in_ok-count.ensures.gave c.in_ok-count.ensures.grown
 
 -- a piece of no bytes comes only where the bytes so far are all
 pub returns-then-count-eq0-clause-whole : goal.returns-then-count-eq0-clause-whole
@@ -32,7 +46,9 @@ loop-shelf-preserved g c =
       counts = λ name. omega (arith, c.loop-shelf.invariant.counts name, c.in_ok-count.ensures.counts name);
       piece = c.loop-shelf.invariant.piece;
       front = front_more _ _ _ _ _ _ _ same c.in_ok-count.ensures.grown c.loop-shelf.invariant.front c.in_ok-count.ensures.given;
-      within = within_more _ _ _ _ _ _ _ same c.loop-shelf.bytes.ok.0 c.read_piece.new.bytes.ok.0 c.in_ok-count.ensures.grown c.loop-shelf.invariant.within c.in_ok-count.ensures.given;
+      asked = read_more _ _ _ _ _ _ _ _ c.loop-shelf.invariant.asked (omega arith) c.in_ok-count.ensures.gave c.in_ok-count.ensures.grown;
+      within = within_more _ _ _ _ _ _ _ same c.loop-shelf.bytes.ok.0 c.read_piece.new.bytes.ok.0 c.in_ok-count.ensures.grown c.loop-shelf.invariant.within
+          c.in_ok-count.ensures.given;
     }
 
 -- a front of more bytes than the limit allows shows that the file is longer

@@ -7,7 +7,7 @@ use Rattle.cycle_table.proofs.reading.body.Given as goal
 -- the lines so far are read, and the costs are what they give
 abbrev pub invariant-loop-row : goal.invariant-loop-row
 invariant-loop-row l = record {
-  read : IsRead (rows_from (l.fn.before + 1) (lines l.fn.text)) (rows_from (l.number + 1) (lines l.rest)) l.costs;
+  read : IsRead l.fn.version (rows_from (l.fn.before + 1) (lines l.fn.text)) (rows_from (l.number + 1) (lines l.rest)) l.costs;
   within : l.number + length l.rest ≤ l.fn.before + length l.fn.text;
   most : All (λ cost. cost ≤ 1000000) l.costs;
 }

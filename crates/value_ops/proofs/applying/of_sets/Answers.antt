@@ -11,4 +11,4 @@ returns-in-Some c =
     let pairs = IsPointwise c.args.op c.args.xs.now c.args.ys.now in
     IfOk-weaker c.span_of_places.result (IsLeast t between) (IsLeast t pairs)
     (λ v least. least_of_same t between pairs v (λ w word is. (c.in-Some.ensures.same w word).0 is) (λ w word is. (c.in-Some.ensures.same w word).1 is) least)
-    c.span_of_places.ensures
+    c.span_of_places.ensures.least

@@ -1,5 +1,5 @@
+use Rattle.value_lattice.proofs.MayLemmas.{least_is_one}
 use Rattle.value_refine.specs.Refinement.{IsWithin}
-use Rattle.value_refine.proofs.LawLemmas.{least_is_one}
 use Rattle.value_refine.proofs.laws.within_is_one.Goals as goal
 
 pub returns : goal.returns

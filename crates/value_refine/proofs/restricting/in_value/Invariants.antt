@@ -1,4 +1,4 @@
-use Rattle.value_refine.specs.Refinement.{MayHave}
+use Rattle.value_lattice.specs.Value.{MayHave}
 use Rattle.value_refine.proofs.RefineLemmas.{IsChosen}
 use Rattle.value_refine.proofs.restricting.in_value.Given as goal
 

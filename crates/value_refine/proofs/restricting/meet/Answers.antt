@@ -1,6 +1,7 @@
+use Rattle.value_lattice.proofs.MayLemmas.{may_be_any}
 use Rattle.std.proofs.Common.{Contains, arith}
 use Rattle.value_refine.specs.Restriction.{IsRestricted, IsShared}
-use Rattle.value_refine.proofs.RefineLemmas.{answer_of_same, may_be_any}
+use Rattle.value_refine.proofs.RefineLemmas.{answer_of_same}
 use Rattle.value_refine.proofs.restricting.meet.Goals as goal
 
 pub returns-in_ok-kept-in-Words : goal.returns-in_ok-kept-in-Words

@@ -1,7 +1,8 @@
+use Rattle.value_lattice.proofs.MayLemmas.{may_be_any}
 use Rattle.std.proofs.Common.{Contains, arith}
 use Rattle.value_refine.specs.Region.{IsInRegion}
 use Rattle.value_refine.specs.Restriction.{IsRestricted}
-use Rattle.value_refine.proofs.RefineLemmas.{answer_of_same, may_be_any, restricted_range}
+use Rattle.value_refine.proofs.RefineLemmas.{answer_of_same, restricted_range}
 use Rattle.value_refine.proofs.restricting.restrict.Goals as goal
 
 pub returns-in_ok-kept-in-Words : goal.returns-in_ok-kept-in-Words

@@ -1,5 +1,6 @@
+use Rattle.value_lattice.proofs.MayLemmas.{some_least}
 use Rattle.value_lattice.specs.Value.{IsBetween}
-use Rattle.value_refine.proofs.RefineLemmas.{least_of_either, some_least}
+use Rattle.value_refine.proofs.RefineLemmas.{least_of_either}
 use Rattle.value_refine.proofs.restricting.span_region.Goals as goal
 
 pub returns-in_ok-join-in-Some-second : goal.returns-in_ok-join-in-Some-second
@@ -10,4 +11,4 @@ returns-in_ok-join-in-Some-second c =
     least_of_either t (IsBetween first.low first.high) (IsBetween second.low second.high) c.in-Some.a c.in-Some-second.b c.in_ok-join-in-Some-second.field-0
     (some_least t (IsBetween first.low first.high) c.in_ok-first.first c.in-Some.a c.in-Some.is c.in_ok-first.ensures)
     (some_least t (IsBetween second.low second.high) c.in_ok-second.second c.in-Some-second.b c.in-Some-second.is c.in_ok-second.ensures)
-    c.in_ok-join-in-Some-second.ensures
+    c.in_ok-join-in-Some-second.ensures.join

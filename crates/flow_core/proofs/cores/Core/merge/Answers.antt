@@ -46,15 +46,7 @@ returns-after-fresh-clause-part g c =
     let law = g.met.S.System.lawful c.args.system.now in
     let now = c.args.self.now in
     let answer = c.args.answer in
-    let key = c.key-key.result in
-    let ek = c.key-key.ensures ∙ ap (λ claim. claim.key) c.of.ensures in
-    let ec = c.copies.ensures ∙ ap (λ claim. claim.copies) c.of-2.ensures in
-    let ef = ap (λ s. s.facts) c.self.view_is in
-    let er = c.deref.ensures.value ∙ c.in-Ok.ensures in
-    let merges : Merges cmp m now answer c.if-fresh.self c.in-Ok-absorb.grown = elim c.if-fresh.branch [
-      | then-fresh w ↦ merged_fresh cmp m law now c.absorb.new.self c.if-fresh.self answer c.in-Ok-absorb.grown c.pieces.result.now key c.copies.result.now c.self.inside.facts c.deref.result.now c.pieces.ensures ek ec ef er c.in-Ok-absorb.ensures.absorbs c.requires.part (c.is_fresh-fresh.ensures.fresh w.if-fresh.true) (w.self-is ∙ w.strike_key.ensures)
-      | else-fresh w ↦ merged_stale cmp m law now c.absorb.new.self c.if-fresh.self answer c.in-Ok-absorb.grown c.pieces.result.now key c.copies.result.now c.self.inside.facts c.deref.result.now c.pieces.ensures ek ec ef er c.in-Ok-absorb.ensures.absorbs c.requires.part (c.is_fresh-fresh.ensures.stale w.if-fresh.false) (w.self-is ∙ w.return_key.ensures)
-    ] in
+    let merges : Merges cmp m now answer c.if-fresh.self c.in-Ok-absorb.grown = returns-after-fresh-clause-merged g c in
     merge_keeps_part cmp m law now c.if-fresh.self answer c.in-Ok-absorb.grown c.requires.part c.requires.of merges
 
 pub returns-after-fresh-clause-good : goal.returns-after-fresh-clause-good
@@ -64,15 +56,7 @@ returns-after-fresh-clause-good g c = λ good.
     let law = g.met.S.System.lawful c.args.system.now in
     let now = c.args.self.now in
     let answer = c.args.answer in
-    let key = c.key-key.result in
-    let ek = c.key-key.ensures ∙ ap (λ claim. claim.key) c.of.ensures in
-    let ec = c.copies.ensures ∙ ap (λ claim. claim.copies) c.of-2.ensures in
-    let ef = ap (λ s. s.facts) c.self.view_is in
-    let er = c.deref.ensures.value ∙ c.in-Ok.ensures in
-    let merges : Merges cmp m now answer c.if-fresh.self c.in-Ok-absorb.grown = elim c.if-fresh.branch [
-      | then-fresh w ↦ merged_fresh cmp m law now c.absorb.new.self c.if-fresh.self answer c.in-Ok-absorb.grown c.pieces.result.now key c.copies.result.now c.self.inside.facts c.deref.result.now c.pieces.ensures ek ec ef er c.in-Ok-absorb.ensures.absorbs c.requires.part (c.is_fresh-fresh.ensures.fresh w.if-fresh.true) (w.self-is ∙ w.strike_key.ensures)
-      | else-fresh w ↦ merged_stale cmp m law now c.absorb.new.self c.if-fresh.self answer c.in-Ok-absorb.grown c.pieces.result.now key c.copies.result.now c.self.inside.facts c.deref.result.now c.pieces.ensures ek ec ef er c.in-Ok-absorb.ensures.absorbs c.requires.part (c.is_fresh-fresh.ensures.stale w.if-fresh.false) (w.self-is ∙ w.return_key.ensures)
-    ] in
+    let merges : Merges cmp m now answer c.if-fresh.self c.in-Ok-absorb.grown = returns-after-fresh-clause-merged g c in
     merge_keeps cmp m law now c.if-fresh.self answer c.in-Ok-absorb.grown good c.requires.of merges
 
 pub returns-after-fresh-clause-growth : goal.returns-after-fresh-clause-growth
@@ -82,13 +66,5 @@ returns-after-fresh-clause-growth g c =
     let law = g.met.S.System.lawful c.args.system.now in
     let now = c.args.self.now in
     let answer = c.args.answer in
-    let key = c.key-key.result in
-    let ek = c.key-key.ensures ∙ ap (λ claim. claim.key) c.of.ensures in
-    let ec = c.copies.ensures ∙ ap (λ claim. claim.copies) c.of-2.ensures in
-    let ef = ap (λ s. s.facts) c.self.view_is in
-    let er = c.deref.ensures.value ∙ c.in-Ok.ensures in
-    let merges : Merges cmp m now answer c.if-fresh.self c.in-Ok-absorb.grown = elim c.if-fresh.branch [
-      | then-fresh w ↦ merged_fresh cmp m law now c.absorb.new.self c.if-fresh.self answer c.in-Ok-absorb.grown c.pieces.result.now key c.copies.result.now c.self.inside.facts c.deref.result.now c.pieces.ensures ek ec ef er c.in-Ok-absorb.ensures.absorbs c.requires.part (c.is_fresh-fresh.ensures.fresh w.if-fresh.true) (w.self-is ∙ w.strike_key.ensures)
-      | else-fresh w ↦ merged_stale cmp m law now c.absorb.new.self c.if-fresh.self answer c.in-Ok-absorb.grown c.pieces.result.now key c.copies.result.now c.self.inside.facts c.deref.result.now c.pieces.ensures ek ec ef er c.in-Ok-absorb.ensures.absorbs c.requires.part (c.is_fresh-fresh.ensures.stale w.if-fresh.false) (w.self-is ∙ w.return_key.ensures)
-    ] in
+    let merges : Merges cmp m now answer c.if-fresh.self c.in-Ok-absorb.grown = returns-after-fresh-clause-merged g c in
     growth_merge cmp m law now c.if-fresh.self answer c.in-Ok-absorb.grown c.requires.part c.requires.of merges

@@ -61,10 +61,8 @@ returns-clause-part g c =
     let m = g.S.System.rules c.args.system.now in
     let law = g.met.S.System.lawful c.args.system.now in
     let i = c.self.inside in
-    let key = c.in-Some-take_least.key in
-    let same = least_same cmp m law i.queue c.in-Some.k key c.in-Some.ensures.least c.in-Some-take_least.ensures.least in
-    let state = took_state cmp m law (record { facts = i.facts; marks = i.queue; out = i.out.items; readers = i.readers; count = i.count; limit = i.limit }) c.in-Some.k key c.take_least.new.self c.push.new.self.items same c.in-Some-take_least.ensures.taken c.in_ok-push.ensures.items in
-    subst (λ s. IsPart cmp m s) (sym state) (claim_keeps_part cmp m law (record { facts = i.facts; marks = i.queue; out = i.out.items; readers = i.readers; count = i.count; limit = i.limit }) key (subst (λ s. IsPart cmp m s) (sym c.self.view_is) c.requires))
+    let takes : Takes cmp m c.args.self.now c.new.result (record { facts = i.facts; marks = c.take_least.new.self; out = c.push.new.self.items; readers = i.readers; count = i.count; limit = i.limit }) = returns-clause-taken g c in
+    subst (λ s. IsPart cmp m s) (sym takes.state) (claim_keeps_part cmp m law c.args.self.now c.new.result.key c.requires)
 
 pub returns-clause-good : goal.returns-clause-good
 returns-clause-good g c = λ good.
@@ -72,10 +70,8 @@ returns-clause-good g c = λ good.
     let m = g.S.System.rules c.args.system.now in
     let law = g.met.S.System.lawful c.args.system.now in
     let i = c.self.inside in
-    let key = c.in-Some-take_least.key in
-    let same = least_same cmp m law i.queue c.in-Some.k key c.in-Some.ensures.least c.in-Some-take_least.ensures.least in
-    let state = took_state cmp m law (record { facts = i.facts; marks = i.queue; out = i.out.items; readers = i.readers; count = i.count; limit = i.limit }) c.in-Some.k key c.take_least.new.self c.push.new.self.items same c.in-Some-take_least.ensures.taken c.in_ok-push.ensures.items in
-    subst (λ s. IsGood cmp m s) (sym state) (claim_keeps cmp m law (record { facts = i.facts; marks = i.queue; out = i.out.items; readers = i.readers; count = i.count; limit = i.limit }) key (subst (λ s. IsGood cmp m s) (sym c.self.view_is) good))
+    let takes : Takes cmp m c.args.self.now c.new.result (record { facts = i.facts; marks = c.take_least.new.self; out = c.push.new.self.items; readers = i.readers; count = i.count; limit = i.limit }) = returns-clause-taken g c in
+    subst (λ s. IsGood cmp m s) (sym takes.state) (claim_keeps cmp m law c.args.self.now c.new.result.key good)
 
 pub returns-clause-growth : goal.returns-clause-growth
 returns-clause-growth g c =
@@ -83,8 +79,5 @@ returns-clause-growth g c =
     let m = g.S.System.rules c.args.system.now in
     let law = g.met.S.System.lawful c.args.system.now in
     let i = c.self.inside in
-    let key = c.in-Some-take_least.key in
-    let same = least_same cmp m law i.queue c.in-Some.k key c.in-Some.ensures.least c.in-Some-take_least.ensures.least in
-    let state = took_state cmp m law (record { facts = i.facts; marks = i.queue; out = i.out.items; readers = i.readers; count = i.count; limit = i.limit }) c.in-Some.k key c.take_least.new.self c.push.new.self.items same c.in-Some-take_least.ensures.taken c.in_ok-push.ensures.items in
-    subst (λ s. IsGrowth cmp m s (record { facts = i.facts; marks = c.take_least.new.self; out = c.push.new.self.items; readers = i.readers; count = i.count; limit = i.limit })) c.self.view_is
-    (subst (λ t. IsGrowth cmp m (record { facts = i.facts; marks = i.queue; out = i.out.items; readers = i.readers; count = i.count; limit = i.limit }) t) (sym state) (growth_claim cmp m law (record { facts = i.facts; marks = i.queue; out = i.out.items; readers = i.readers; count = i.count; limit = i.limit }) key (subst (λ s. IsPart cmp m s) (sym c.self.view_is) c.requires)))
+    let takes : Takes cmp m c.args.self.now c.new.result (record { facts = i.facts; marks = c.take_least.new.self; out = c.push.new.self.items; readers = i.readers; count = i.count; limit = i.limit }) = returns-clause-taken g c in
+    subst (λ s. IsGrowth cmp m c.args.self.now s) (sym takes.state) (growth_claim cmp m law c.args.self.now c.new.result.key c.requires)

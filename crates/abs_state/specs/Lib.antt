@@ -1,0 +1,4 @@
+pub mod Flags
+pub mod Key
+pub mod State
+pub mod Laws

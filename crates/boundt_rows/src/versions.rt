@@ -1,0 +1,85 @@
+//! The rows of tables of cycles of both versions.
+use crate::calls::{NEVER, expect, files_of, files_with, report, table_with};
+use std::alloc::Global;
+use std::process::Abort;
+use std::test::Fail;
+
+/// A table of version 2: the lines of version 1, in which every class costs one cycle, and these.
+fn second(alloc: Global, lines: &str) -> Result<Vec<u8>, Fail> {
+    let mut table = table_with(alloc, "annulled 1\n")?;
+    if let Some(version) = table.get_mut(7) {
+        *version = b'2';
+    }
+    table.extend_from_slice(lines.as_bytes())?;
+    Ok(table)
+}
+
+/// Tables that are refused: whether they are of version 2, what ends them, and the message.
+fn refuses(rt: &(impl Abort + AllocGlobal)) -> Result<(), Fail> {
+    let alloc = rt.alloc();
+    for (new, lines, message) in [
+        (true, "", "boundt: 4 Missing class loaduse"),
+        (
+            true,
+            "divide 1\nloaduse 1\n",
+            "boundt: 4 Missing class multiply",
+        ),
+        (
+            true,
+            "loaduse 1\nmultiply 1\n",
+            "boundt: 4 Missing class divide",
+        ),
+        (true, "loaduse 0\n", "boundt: 4 Zero class loaduse n 29"),
+        (
+            true,
+            "divide 1\ndivide 1\n",
+            "boundt: 4 Twice class divide n 30",
+        ),
+        (true, "multiply 1 1\n", "boundt: 4 Line n 29 why Extra"),
+        (true, "multiplies 1\n", "boundt: 4 Line n 29 why Class"),
+        (false, "loaduse 1\n", "boundt: 4 Line n 29 why Class"),
+        (false, "multiply\n", "boundt: 4 Line n 29 why Class"),
+    ] {
+        let mut files = files_of(alloc, "root f\n")?;
+        files.table = if new {
+            second(alloc, lines)?
+        } else {
+            let all = format!(in alloc; "annulled 1\n{lines}")?;
+            table_with(alloc, all.as_str())?
+        };
+        expect(rt, "bound i c a", files, (NEVER, NEVER), message, "")?;
+    }
+    Ok(())
+}
+
+/// Straight code, and its bound by a table of version 2 in which a use behind a load costs so much and all else one
+/// cycle: only the first word can be one, since any register may be loaded right before it.
+fn bounds(rt: &(impl Abort + AllocGlobal)) -> Result<(), Fail> {
+    let alloc = rt.alloc();
+    for (code, uses, bound) in [
+        ("81c3e0080100000000000000ffffffff", 1, 3),
+        ("81c3e0080100000000000000ffffffff", 4, 6),
+        ("110000019012200581c3e00801000000", 4, 4),
+        ("901220059012200581c3e00801000000", 4, 8),
+    ] {
+        let mut files = files_with(alloc, code, "root f\n")?;
+        let lines = format!(in alloc; "divide 1\nloaduse {uses}\nmultiply 1\n")?;
+        files.table = second(alloc, lines.as_str())?;
+        let text = report(alloc, "f", bound)?;
+        expect(
+            rt,
+            "bound i c a",
+            files,
+            (NEVER, NEVER),
+            "boundt: 0 Bounded",
+            text.as_str(),
+        )?;
+    }
+    Ok(())
+}
+
+#[test]
+fn versions(rt: HostRuntime) -> Result<(), Fail> {
+    refuses(&rt)?;
+    bounds(&rt)
+}

@@ -1,0 +1,28 @@
+//! Facts about cells and their sets: each is the contract of a function that does nothing.
+ghost use Rattle.call_effects.specs.Cell.{CellsTellRegistersApart};
+ghost use Rattle.call_effects.specs.Mask.{MasksAreSets, MasksStayMasks, CallsWriteWhatStands, LargerMasksWriteMore};
+
+/// Registers of one window have cells of their own.
+pub fn cells_tell_registers_apart()
+    ensures { CellsTellRegistersApart }
+{}
+
+/// Masks are sets of cells: they are joined, ordered and told apart as sets.
+pub fn masks_are_sets()
+    ensures { MasksAreSets }
+{}
+
+/// What is made of masks is one.
+pub fn masks_stay_masks()
+    ensures { MasksStayMasks }
+{}
+
+/// A caller's cell may be written exactly where it stands for a cell that the callee may write.
+pub fn calls_write_what_stands()
+    ensures { CallsWriteWhatStands }
+{}
+
+/// A callee that may write more may write more of its caller.
+pub fn larger_masks_write_more()
+    ensures { LargerMasksWriteMore }
+{}

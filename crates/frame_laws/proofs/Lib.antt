@@ -1,0 +1,5 @@
+pub mod Spending
+pub mod Traces
+pub mod Walking
+pub mod WorkedContexts
+pub mod WorkedRun

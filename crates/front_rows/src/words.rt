@@ -1,0 +1,136 @@
+//! Calls, and what their words ask for.
+use bt_words::{NoRequest, Request, request_of};
+use std::alloc::Global;
+use std::test::Fail;
+
+/// Words that are refused.
+const REFUSED: [&str; 52] = [
+    "",
+    "bound",
+    "bound i",
+    "bound i c",
+    "bound i c a d",
+    "bound i c a --workers 0",
+    "bound i c a --workers 65",
+    "bound i c a --workers 18446744073709551617",
+    "bound i c a --workers -1",
+    "bound i c a --workers=-1",
+    "bound i c a --workers=-0",
+    "bound i c a --workers x",
+    "bound i c a --workers 1x",
+    "bound i c a --workers ''",
+    "bound i c a --workers=",
+    "bound i c a --workers",
+    "bound i c a --workers -- 2",
+    "bound --workers i c a",
+    "bound --workers 1 i c a --workers 1",
+    "bound --workers=2 --workers=2 i c a",
+    "bound i c a --worker 2",
+    "bound i c a --work=2",
+    "bound i c a -w 2",
+    "bound i c a -w2",
+    "bound i c a --version",
+    "bound i c a -V",
+    "--version",
+    "-V",
+    "--workers 2 bound i c a",
+    "--workers=2 bound i c a",
+    "help",
+    "help bound",
+    "--help",
+    "-h",
+    "bound --help",
+    "bound i c a -h",
+    "bound i c a --help",
+    "-- bound i c a",
+    "--",
+    "bound -i c a",
+    "bound i c --a",
+    "bound i c a -- --workers 2",
+    "bounds i c a",
+    "boun i c a",
+    "'' i c a",
+    "i",
+    "decode",
+    "decode i j",
+    "decode -i",
+    "decode --workers 1 i",
+    "decode i --workers=1",
+    "decode -h",
+];
+
+/// Words that ask for a bound, and what they ask for. A number may have a sign + and leading zeros.
+const BOUND: [(&str, &str, &str, &str, u32); 24] = [
+    ("bound i c a", "i", "c", "a", 1),
+    ("bound --workers 2 i c a", "i", "c", "a", 2),
+    ("bound i --workers 2 c a", "i", "c", "a", 2),
+    ("bound i c --workers=2 a", "i", "c", "a", 2),
+    ("bound --workers=2 i c a", "i", "c", "a", 2),
+    ("bound i c a --workers 2", "i", "c", "a", 2),
+    ("bound i c a --workers=2", "i", "c", "a", 2),
+    ("bound i c a --workers 1", "i", "c", "a", 1),
+    ("bound i c a --workers 64", "i", "c", "a", 64),
+    ("bound i c a --workers +1", "i", "c", "a", 1),
+    ("bound i c a --workers 01", "i", "c", "a", 1),
+    ("bound i c a --workers=+0064", "i", "c", "a", 64),
+    ("bound i c -- --help", "i", "c", "--help", 1),
+    ("bound help c a", "help", "c", "a", 1),
+    ("bound i c help", "i", "c", "help", 1),
+    ("bound - c a", "-", "c", "a", 1),
+    ("bound i - -", "i", "-", "-", 1),
+    ("bound i c ''", "i", "c", "", 1),
+    ("bound '' '' ''", "", "", "", 1),
+    ("bound -- -i c --a", "-i", "c", "--a", 1),
+    ("bound i -- --workers a", "i", "--workers", "a", 1),
+    ("bound i -- -- --", "i", "--", "--", 1),
+    ("bound i --workers 3 c -- -a", "i", "c", "-a", 3),
+    ("bound bound decode bound", "bound", "decode", "bound", 1),
+];
+
+/// Words that ask for a listing, and its image.
+const LISTED: [(&str, &str); 4] = [
+    ("decode i", "i"),
+    ("decode -- -i", "-i"),
+    ("decode ''", ""),
+    ("decode help", "help"),
+];
+
+/// The words of a call, parted by blanks; `''` stands for the empty word.
+fn call(alloc: Global, text: &str) -> Result<Vec<String>, Fail> {
+    let mut words = Vec::new(alloc);
+    for word in text.split_whitespace() {
+        let word = if word == "''" { "" } else { word };
+        words.push(String::from_str(alloc, word)?)?;
+    }
+    Ok(words)
+}
+
+#[test]
+fn requests_of_words(rt: HostRuntime) -> Result<(), Fail> {
+    let alloc = rt.alloc();
+    for text in REFUSED {
+        let words = call(alloc, text)?;
+        assert!(rt;
+            request_of(alloc, &words) == Err(NoRequest::Usage),
+            "at {text}"
+        );
+    }
+    for (text, image, cycles, assertions, workers) in BOUND {
+        let words = call(alloc, text)?;
+        let want = Request::Bound {
+            image,
+            cycles,
+            assertions,
+            workers,
+        };
+        assert!(rt; request_of(alloc, &words) == Ok(want), "at {text}");
+    }
+    for (text, image) in LISTED {
+        let words = call(alloc, text)?;
+        assert!(rt;
+            request_of(alloc, &words) == Ok(Request::Decode { image }),
+            "at {text}"
+        );
+    }
+    Ok(())
+}

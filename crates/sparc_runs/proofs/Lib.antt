@@ -1,0 +1,15 @@
+pub mod Acting
+pub mod Activations
+pub mod Bounds
+pub mod Goings
+pub mod HighStacks
+pub mod Levels
+pub mod Meanings
+pub mod MeetLaws
+pub mod Places
+pub mod Pops
+pub mod RunLaws
+pub mod StepLaws
+pub mod Stepping
+pub mod Transfers
+pub mod WorkedRuns

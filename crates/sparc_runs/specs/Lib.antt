@@ -1,0 +1,13 @@
+pub mod Activation
+pub mod Cost
+pub mod Going
+pub mod High
+pub mod Meets
+pub mod Numbers
+pub mod Place
+pub mod Running
+pub mod Sound
+pub mod Stub
+pub mod Window
+pub mod Worked
+pub mod Written

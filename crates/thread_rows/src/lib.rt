@@ -1,0 +1,8 @@
+//! The worked rows of the crates that threads share: the board and the parts. It alone of the crates of tests has
+//! handles.
+#![tactic(auto)]
+
+#[cfg(test)]
+mod board;
+#[cfg(test)]
+mod parts;

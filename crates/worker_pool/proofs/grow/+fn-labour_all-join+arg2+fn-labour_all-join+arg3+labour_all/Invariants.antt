@@ -1,0 +1,11 @@
+use Prim.Native.Nat.{◌+◌, ◌*◌}
+use Rattle.worker_pool.proofs.grow.+fn-labour_all-join+arg2+fn-labour_all-join+arg3+labour_all.Given as goal
+
+abbrev pub decreases-join+arg2 : goal.decreases-join+arg2
+decreases-join+arg2 g l = 2 * l.half + 1
+
+abbrev pub decreases-join+arg3 : goal.decreases-join+arg3
+decreases-join+arg3 g l = 2 * l.rest + 1
+
+abbrev pub decreases-labour_all : goal.decreases-labour_all
+decreases-labour_all g l = 2 * l.count
