@@ -1,8 +1,13 @@
+pub mod Complete
 pub mod Entries
 pub mod Found
+pub mod Gathered
 pub mod Kept
 pub mod Lists
+pub mod Loops
 pub mod Marks
+pub mod Nested
 pub mod Parts
 pub mod Places
+pub mod Split
 pub mod Turned

@@ -4,9 +4,18 @@
 mod entering;
 mod finding;
 mod keeping;
+mod looking;
 mod marking;
+mod natural_loop;
+mod nesting;
 mod ordering;
 mod parting;
+mod placing;
+mod refusal;
 mod searching;
 mod splitting;
 mod turning;
+
+pub use natural_loop::Loop;
+pub use nesting::{LoopNest, nest};
+pub use refusal::NestRefusal;
