@@ -1,19 +1,15 @@
 -- Refinement covers, is monotone, and is one.
 use Rattle.value_lattice.proofs.MayLemmas.{some_word_of, may_from_has, may_have_more, least_or_none_of_same, only_word, least_is_one, less_from_least}
 use Rattle.value_lattice.proofs.MayLemmas.{covered_some, zero_is, zero_below, has_any, all_is_left}
-use Rattle.std.proofs.Common.{◌≡◌, ℕ, zero, suc, ◌%◌, ◌^◌, ◌<◌, ◌⊎◌, ◌↔◌, Bool, true, false, not, List, [], ◌∷◌, get_or, Option, Some, None, refl, sym, ap}
-use Rattle.std.proofs.Common.{subst, ◌∙◌, inl, inr, arith, All, Contains}
+use Rattle.std.proofs.Common.{◌≡◌, ℕ, ◌%◌, ◌^◌, ◌<◌, ◌⊎◌, ◌↔◌, Bool, true, false, not, List, [], ◌∷◌, Option, Some, None, refl, sym, ap}
+use Rattle.std.proofs.Common.{subst, ◌∙◌, inl, inr, Contains}
 use Rattle.std.specs.Prelude.{◌==◌}
-use Rattle.std.specs.List.Sorted.{IsStrictlyIncreasing}
-use Rattle.std.proofs.lemmas.Bool.{both_ways, cases_Bool, false≢true, true≢false, eqb-true}
-use Rattle.std.proofs.lemmas.List.Elements.{All-contains, Contains-get_or}
+use Rattle.std.proofs.lemmas.Bool.{both_ways, cases_Bool, false≢true, true≢false}
 use Rattle.value_lattice.specs.Laws.{AreMore}
-use Rattle.value_lattice.specs.Set.{IsSet}
-use Rattle.value_lattice.specs.Value.{Has, AtMost, IsValue, IsOver, IsLeast, IsBetween, HasSome, IsLess, MayHave, IsLeastOrNone, is_zero}
+use Rattle.value_lattice.specs.Value.{Has, AtMost, IsValue, IsOver, IsBetween, HasSome, IsLess, MayHave, IsLeastOrNone, is_zero}
 use Rattle.value_lattice.specs.declared.value.Value.{Value}
-use Rattle.value_lattice.specs.declared.value.Value.TheVariants.{Words, Range, Ret}
-use Rattle.value_lattice.proofs.JoinLemmas.{no_ret_in_set}
-use Rattle.value_lattice.proofs.ValueLemmas.{no_range_in_set, over_more, least_is_monotone, same_value}
+use Rattle.value_lattice.specs.declared.value.Value.TheVariants.{Words, Ret}
+use Rattle.value_lattice.proofs.ValueLemmas.{over_more}
 use Rattle.value_refine.specs.Refinement.{IsPossible, IsWithin, IsRefined, is_left_alone}
 use Rattle.word_ops.specs.Condition.{holds_of}
 use Rattle.word_ops.specs.Flags.{difference_flags_of}

@@ -1,4 +1,5 @@
 -- Which words some word of a value compares with so: the ends of the value decide.
+pub use Rattle.value_lattice.proofs.CompareLemmas.{iff_trans}
 use Rattle.value_lattice.proofs.MayLemmas.{some_word_of}
 use Rattle.std.proofs.Common.{◌≡◌, ℕ, ◌-◌, ◌^◌, ◌<◌, ◌≤◌, ◌↔◌, Bool, true, false, List, length, get_or, refl, sym, ap, subst, ◌∙◌, inl, inr, ⊎_elim, arith}
 use Rattle.std.specs.Prelude.{ℤ, eqb}
@@ -33,9 +34,6 @@ at_most_some i k up = (λ below. inr (le-leb k i.high below), λ some. ⊎_elim 
 
 pub above_some : (i : Interval) (k : ℕ) → i.low ≤ i.high → (i.low < k) ↔ IsOrdered false false i k
 above_some i k up = (λ above. inl (lt-leb k i.low above), λ some. ⊎_elim (λ h. leb-false k i.low h) (λ h. omega (arith, leb-false k i.high h)) some)
-
-pub iff_trans : {P Q R : Type 0} → P ↔ Q → Q ↔ R → P ↔ R
-iff_trans f g = (λ p. g.0 (f.0 p), λ r. f.1 (g.1 r))
 
 -- a number ordered so with one between the ends is ordered so with one of the ends
 ends_order : (strict holds : Bool) (i : Interval) (k m : ℕ) → IsIn i m → orders strict k m ≡ holds → IsOrdered strict holds i k

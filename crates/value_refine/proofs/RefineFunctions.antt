@@ -1,18 +1,17 @@
 -- What is left of a value, as functions: they are what the relations say, and cover and fall with them.
-use Rattle.std.proofs.Common.{◌≡◌, ℕ, ◌%◌, ◌^◌, ◌<◌, ◌&&◌, Bool, true, false, not, List, Option, Some, None, refl, sym, subst, ◌∙◌, inl, inr, arith}
-use Rattle.std.proofs.Common.{Decides, cond}
-use Rattle.std.proofs.lemmas.Bool.{cases_Bool, cond-true, cond-false, cond_both, and_parts, and_from, both_ways, false≢true, true≢false, not-true}
+use Rattle.std.proofs.Common.{◌≡◌, ℕ, ◌^◌, ◌<◌, ◌&&◌, Bool, true, false, List, Option, Some, None, refl, sym, subst, ◌∙◌}
+use Rattle.std.proofs.lemmas.Bool.{cond-true, cond-false, cond_both, and_parts, and_from, true≢false, not-true}
 use Rattle.std.proofs.lemmas.Bool.{not_from_false}
 use Rattle.value_lattice.specs.Laws.{AreMore}
 use Rattle.value_lattice.specs.Least.{least_of}
 use Rattle.value_lattice.specs.Passing.{passes_some}
 use Rattle.value_lattice.specs.Test.{is_placed, is_over, is_over_or_none, is_at_most, is_less, may_have}
 use Rattle.value_lattice.specs.Thresholds.{IsThresholds}
-use Rattle.value_lattice.specs.Value.{Has, AtMost, IsValue, IsOver, IsLeast, IsBetween, MayHave, IsLeastOrNone, HasSome, IsLess, is_ret, is_some_ret}
+use Rattle.value_lattice.specs.Value.{Has, IsValue, IsOver, IsBetween, MayHave, IsLeastOrNone, HasSome, is_ret, is_some_ret}
 use Rattle.value_lattice.specs.declared.value.Value.{Value}
-use Rattle.value_lattice.specs.declared.value.Value.TheVariants.{Words, Range, Ret}
+use Rattle.value_lattice.specs.declared.value.Value.TheVariants.{Ret}
 use Rattle.value_lattice.proofs.FunctionLemmas.{least_of_kind, least_is_no_ret, is_less_from_least}
-use Rattle.value_lattice.proofs.MayLemmas.{may_have_more, least_is_one, has_any, all_is_left}
+use Rattle.value_lattice.proofs.MayLemmas.{least_is_one, all_is_left}
 use Rattle.value_lattice.proofs.TestLemmas.{over_decides, may_have_decides, placed_decides, ordered, less_decides}
 use Rattle.value_lattice.proofs.WordsBelowLemmas.{IsPassed, passed, passes_from}
 use Rattle.value_refine.specs.Refinement.{IsPossible, IsWithin, IsRefined, is_left_alone, answers, makes, is_possible, refine, is_within, within}

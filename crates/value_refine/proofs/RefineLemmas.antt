@@ -1,19 +1,18 @@
 -- Words that values may have, and what is least of them.
 use Rattle.value_lattice.proofs.MayLemmas.{least_or_none_of_same}
-use Rattle.std.proofs.Common.{◌≡◌, ℕ, ◌+◌, ◌^◌, ◌<◌, ◌≤◌, ◌⊎◌, ◌↔◌, List, [], ◌∷◌, length, get_or, ◌++◌, Option, Some, None, Result, IfOk, refl, sym, subst}
+use Rattle.std.proofs.Common.{◌≡◌, ℕ, ◌+◌, ◌^◌, ◌<◌, ◌≤◌, ◌⊎◌, ◌↔◌, List, [], ◌∷◌, length, get_or, ◌++◌, Option, Result, IfOk, refl, sym, subst}
 use Rattle.std.proofs.Common.{inl, inr, ⊎_elim, arith, Contains}
 use Rattle.std.specs.Prelude.{ℤ}
-use Rattle.std.proofs.lemmas.List.Elements.{All-contains, Contains-get_or, Contains-append_left, Contains-push, Contains-push_cases}
+use Rattle.std.proofs.lemmas.List.Elements.{Contains-get_or, Contains-append_left, Contains-push, Contains-push_cases}
 use Rattle.std.proofs.lemmas.Bool.{cases_lt}
 use Rattle.std.proofs.lemmas.Result.{IfOk-weaker}
 use Rattle.std.proofs.lemmas.List.{get_or_default}
 use Rattle.value_lattice.specs.Ends.{AreEnds}
-use Rattle.value_lattice.specs.Order.{place_of, word_at, rank_of}
-use Rattle.value_lattice.specs.Value.{Has, AtMost, IsValue, IsLeast, IsJoin, MayHave, IsLeastOrNone}
+use Rattle.value_lattice.specs.Order.{place_of, word_at}
+use Rattle.value_lattice.specs.Value.{IsValue, IsLeast, IsJoin, MayHave, IsLeastOrNone}
 use Rattle.value_lattice.specs.declared.value.Value.{Value}
 use Rattle.value_lattice.specs.declared.value.Value.TheVariants.{Words, Range, Ret}
 use Rattle.value_lattice.proofs.SetLemmas.{place_of-word_at, word_at_below}
-use Rattle.value_lattice.proofs.ValueLemmas.{least_of_same, rank_below}
 use Rattle.value_refine.specs.Interval.{IsIn}
 use Rattle.value_refine.specs.Region.{IsInRegion}
 use Rattle.value_refine.specs.Restriction.{IsRestricted}

@@ -1,11 +1,10 @@
 -- What is left of a value.
-use Rattle.std.specs.Prelude.{◌==◌, ◌≡◌, ℕ, ◌%◌, ◌^◌, ◌<◌, ◌&&◌, Bool, true, false, not, List, [], ◌∷◌, Option, Some, None, if◌then◌else◌}
+use Rattle.std.specs.Prelude.{◌==◌, ◌≡◌, ℕ, ◌%◌, ◌^◌, ◌<◌, ◌&&◌, Bool, true, false, not, List, Option, Some, if◌then◌else◌}
 use Rattle.value_lattice.specs.Value.{IsBetween, MayHave, IsLeastOrNone, is_zero}
 use Rattle.value_lattice.specs.Least.{least_of}
 use Rattle.value_lattice.specs.Passing.{passes_some}
 use Rattle.value_lattice.specs.Test.{is_placed, may_have}
 use Rattle.value_lattice.specs.declared.value.Value.{Value}
-use Rattle.value_lattice.specs.declared.value.Value.TheVariants.{Words, Range, Ret}
 use Rattle.word_ops.specs.Condition.{holds_of}
 use Rattle.word_ops.specs.Flags.{difference_flags_of}
 
