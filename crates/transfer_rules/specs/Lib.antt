@@ -1,0 +1,3 @@
+pub mod Fact
+pub mod Family
+pub mod Give
