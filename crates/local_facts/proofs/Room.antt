@@ -68,8 +68,8 @@ module _ {K : Type 0} (cmp : K → K → Ordering) (order : OrdersKeys cmp) wher
       one : (i j : ℕ) → i < length ks → j < length ks → place keep (get_or ks i d) ≡ place keep (get_or ks j d) → i ≡ j
       one i j a b e =
           ⊎_elim (λ (low : i < j). absurd (apart i j low b (same i j a b e)))
-              (λ (high : j ≤ i). ⊎_elim (λ (low : j < i). absurd (apart j i low a (sym (same i j a b e)))) (λ (up : i ≤ j). omega (arith, high, up)) (cases_lt j i))
-              (cases_lt i j)
+          (λ (high : j ≤ i). ⊎_elim (λ (low : j < i). absurd (apart j i low a (sym (same i j a b e)))) (λ (up : i ≤ j). omega (arith, high, up)) (cases_lt j i))
+          (cases_lt i j)
 
 module _ {K V : Type 0} (cmp : K → K → Ordering) (r : Rules K V) (law : IsLawful cmp r) (keep : List K) (inside : (k : K) (v : V) → IsTrue (r.fits k v) → is_listed cmp keep k ≡ true) where
   -- entries in the keys' order, which fit and whose keys are listed
@@ -168,9 +168,9 @@ module _ {K V : Type 0} (cmp : K → K → Ordering) (r : Rules K V) (law : IsLa
     none_raised n later (suc m) t staged short low = over_none t staged
         (λ k v fv none. let e = more_new t k v staged none in later (insert_entry cmp t k v) (staged_put t k v staged fv) (omega (arith, e, short)))
         (λ k v w fv found not_below.
-            let e = same_raised t k (r.join w v) w staged found in
-            let h = less_raised t k v w staged fv found not_below in
-            none_raised n later m (insert_entry cmp t k (r.join w v)) (staged_put t k (r.join w v) staged (law.fit.join k w v (staged.fit k w found) fv)) (omega (arith, e, short)) (omega (arith, h, low)))
+        let e = same_raised t k (r.join w v) w staged found in
+        let h = less_raised t k v w staged fv found not_below in
+        none_raised n later m (insert_entry cmp t k (r.join w v)) (staged_put t k (r.join w v) staged (law.fit.join k w v (staged.fit k w found) fv)) (omega (arith, e, short)) (omega (arith, h, low)))
 
     none_within : (n : ℕ) → NoneWithin n
     none_within zero t staged short = let f = few t staged in absurd (omega (arith, f, short))
