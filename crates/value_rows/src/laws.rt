@@ -2,8 +2,6 @@
 use std::alloc::Global;
 use std::test::Fail;
 use value_lattice::{Thresholds, Value, cover, number_at_place, span, word_at_place};
-use value_ops::{Op, apply};
-use value_refine::{refine, within};
 
 /// The ends of a value, as numbers with sign.
 fn ends(v: &Value) -> (i32, i32) {
@@ -51,60 +49,5 @@ fn the_order_and_zero(rt: HostRuntime) -> Result<(), Fail> {
     assert!(rt; two.may_have(5) && !two.may_have(6) && any.may_have(6) && ret.may_have(6));
     assert_eq!(rt; two.ends(), (0x8000_0000, 0x8000_0005));
     assert_eq!(rt; word_at_place(0x8000_0005), 5);
-    Ok(())
-}
-
-#[test]
-fn operations_fall_with_their_sides(rt: HostRuntime) -> Result<(), Fail> {
-    let alloc = rt.alloc();
-    let t = Thresholds::make(alloc, &[])?;
-    let more = t.widened(alloc, &[600])?;
-    let wide = span(alloc, 0, 255, &t)?;
-    let narrow = span(alloc, 0, 200, &more)?;
-    let three = cover(alloc, &[3], &t)?;
-    let wider = apply(alloc, Op::Mul, &wide, &three, &t)?;
-    let narrower = apply(alloc, Op::Mul, &narrow, &three, &more)?;
-    assert_eq!(rt; ends(&wider), (0, 32767));
-    assert_eq!(rt; ends(&narrower), (0, 32767));
-    let sum = apply(alloc, Op::Add, &wide, &wide, &t)?;
-    let sum_of_less = apply(alloc, Op::Add, &narrow, &narrow, &more)?;
-    assert_eq!(rt; ends(&sum), (0, 32767));
-    assert_eq!(rt; ends(&sum_of_less), (0, 600));
-    assert!(rt; sum_of_less.at_most(&sum) && narrower.at_most(&wider));
-    Ok(())
-}
-
-/// What is left of a value, or any word where nothing is.
-fn or_any(rest: Option<Value>) -> Value {
-    match rest {
-        Some(v) => v,
-        None => Value::top(),
-    }
-}
-
-#[test]
-fn what_is_left_is_at_most_the_left_side(rt: HostRuntime) -> Result<(), Fail> {
-    let alloc = rt.alloc();
-    let t = Thresholds::make(alloc, &[])?;
-    let byte = span(alloc, 0, 255, &t)?;
-    let seven = cover(alloc, &[7], &t)?;
-    let left = or_any(refine(alloc, 3, true, &byte, &seven, &t)?);
-    assert!(rt; left.at_most(&byte) && !byte.at_most(&left));
-    assert_eq!(rt; ends(&left), (0, 6));
-    let middle = or_any(within(alloc, &byte, 10, 12, &t)?);
-    assert!(rt; middle.at_most(&byte));
-    assert_eq!(rt; ends(&middle), (10, 12));
-    assert!(rt;
-        matches!(
-            refine(alloc, 7, true, &Value::Ret, &byte, &t)?,
-            Some(Value::Ret)
-        )
-    );
-    assert!(rt;
-        matches!(
-            within(alloc, &Value::Ret, i32::MIN, i32::MAX, &t)?,
-            Some(Value::Range { .. })
-        )
-    );
     Ok(())
 }
