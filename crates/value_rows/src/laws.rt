@@ -1,4 +1,7 @@
 //! An instance of each law of values, operations and refinement.
+ghost use Rattle.std.specs.Prelude.{IfSome};
+ghost use Rattle.value_lattice.specs.Value.{IsValue};
+
 use std::alloc::Global;
 use std::test::Fail;
 use value_lattice::{Thresholds, Value, cover, number_at_place, span, word_at_place};
@@ -63,7 +66,8 @@ fn operations_fall_with_their_sides(rt: HostRuntime) -> Result<(), Fail> {
     let narrow = span(alloc, 0, 200, &more)?;
     let three = cover(alloc, &[3], &t)?;
     let wider = apply(alloc, Op::Mul, &wide, &three, &t)?;
-    let narrower = apply(alloc, Op::Mul, &narrow, &three, &more)?;
+    let three_too = cover(alloc, &[3], &more)?;
+    let narrower = apply(alloc, Op::Mul, &narrow, &three_too, &more)?;
     assert_eq!(rt; ends(&wider), (0, 32767));
     assert_eq!(rt; ends(&narrower), (0, 32767));
     let sum = apply(alloc, Op::Add, &wide, &wide, &t)?;
@@ -74,11 +78,14 @@ fn operations_fall_with_their_sides(rt: HostRuntime) -> Result<(), Fail> {
     Ok(())
 }
 
-/// What is left of a value, or any word where nothing is.
-fn or_any(rest: Option<Value>) -> Value {
+/// Whether what is left of a value is there, is at most the value, and has these ends.
+fn is_rest(rest: &Option<Value>, value: &Value, lo: i32, hi: i32) -> bool
+    requires rest { IfSome rest.now IsValue }
+    requires value { IsValue value.now }
+{
     match rest {
-        Some(v) => v,
-        None => Value::top(),
+        Some(v) => v.at_most(value) && ends(v) == (lo, hi),
+        None => false,
     }
 }
 
@@ -88,12 +95,10 @@ fn what_is_left_is_at_most_the_left_side(rt: HostRuntime) -> Result<(), Fail> {
     let t = Thresholds::make(alloc, &[])?;
     let byte = span(alloc, 0, 255, &t)?;
     let seven = cover(alloc, &[7], &t)?;
-    let left = or_any(refine(alloc, 3, true, &byte, &seven, &t)?);
-    assert!(rt; left.at_most(&byte) && !byte.at_most(&left));
-    assert_eq!(rt; ends(&left), (0, 6));
-    let middle = or_any(within(alloc, &byte, 10, 12, &t)?);
-    assert!(rt; middle.at_most(&byte));
-    assert_eq!(rt; ends(&middle), (10, 12));
+    let left = refine(alloc, 3, true, &byte, &seven, &t)?;
+    assert!(rt; is_rest(&left, &byte, 0, 6));
+    let middle = within(alloc, &byte, 10, 12, &t)?;
+    assert!(rt; is_rest(&middle, &byte, 10, 12));
     assert!(rt;
         matches!(
             refine(alloc, 7, true, &Value::Ret, &byte, &t)?,
