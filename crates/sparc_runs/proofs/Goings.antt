@@ -121,7 +121,7 @@ module _ (m : Machine) where
   goes image free (Sethi rd imm) after annulled does = done_plain _ after annulled (writes rd _) does
   goes image free (Branch annul condition disp) after annulled does = branch_leads annul (holds_of condition (flags_in m)) condition disp after annulled does
   goes image free (FloatBranch annul condition disp) after annulled does =
-      (float_taken condition free.taken, branch_leads annul (float_taken condition free.taken) condition disp after annulled does)
+      (free.taken, branch_leads annul (float_taken condition free.taken) condition disp after annulled does)
   goes image free (Alu op true rd rs1 second) after annulled does = done_plain _ after annulled (flagged _ rd _) does
   goes image free (Alu op false rd rs1 second) after annulled does = done_plain _ after annulled (writes rd _) does
   goes image free (Tagged op rd rs1 second) after annulled does = done_plain _ after annulled (flagged _ rd _) does
@@ -174,7 +174,7 @@ goes_charged (Jmpl rd rs1 second) m after cost these h = leads_charged m _ _ aft
 goes_charged (Branch annul condition disp) m after cost these h =
     branch_charged m annul (eqb condition 8) (holds_of condition (flags_in m)) (target_of m.pc disp) after cost these h
 goes_charged (FloatBranch annul condition disp) m after cost these h =
-    (h.0, branch_charged m annul (eqb condition 8) h.0 (target_of m.pc disp) after cost these h.1)
+    (h.0, branch_charged m annul (eqb condition 8) (float_taken condition h.0) (target_of m.pc disp) after cost these h.1)
 goes_charged _ m after cost these h = stands_charged _ _ after cost these h
 
 -- so each step does
@@ -206,7 +206,6 @@ lead_back image cycles m next (Jmpl rd rs1 (Imm n)) step is ret =
     let inner = and_parts (int_eq n (pos 8) || int_eq n (pos 12)) (eqb rs1 15 || eqb rs1 31) outer.1 in
     let to : Leads m m.npc (address_in m rs1 (Imm n)) next = steps_go image cycles m next (Jmpl rd rs1 (Imm n)) step is in
     record {
-      link = rs1;
       either = (elim (or_cases (eqb rs1 15) (eqb rs1 31) inner.1) [ inl a ↦ inl (eqb-true rs1 15 a) | inr b ↦ inr (eqb-true rs1 31 b) ]);
       behind = to.to.after ∙ ap (λ (x : ℕ). (register_of m rs1 + x) % 2 ^ 32) (offset_of n inner.0);
     }

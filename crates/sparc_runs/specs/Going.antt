@@ -4,7 +4,7 @@ use Rattle.std.specs.Ordering.{int_eq}
 use Rattle.sparc_decode.specs.declared.instruction.Instr.{Instr}
 use Rattle.sparc_decode.specs.declared.instruction.Instr.TheVariants.{Call, Branch, FloatBranch, Jmpl}
 use Rattle.sparc_decode.specs.declared.instruction.Second.TheVariants.{Imm}
-use Rattle.sparc_machine.specs.Effect.{flags_in, target_of, address_in}
+use Rattle.sparc_machine.specs.Effect.{flags_in, float_taken, target_of, address_in}
 use Rattle.sparc_machine.specs.Frame.{StepsTo}
 use Rattle.sparc_machine.specs.Machine.{register_of}
 use Rattle.sparc_machine.specs.Straight.{code_instruction}
@@ -36,7 +36,7 @@ abbrev pub Goes : Instr → Machine → Machine → Type 0
 Goes (Call disp) m next = Leads m m.npc ((m.pc + disp * 4) % 2 ^ 32) next
 Goes (Jmpl rd rs1 second) m next = Leads m m.npc (address_in m rs1 second) next
 Goes (Branch annul cond disp) m next = BranchLeads m annul (cond == 8) (holds_of cond (flags_in m)) (target_of m.pc disp) next
-Goes (FloatBranch annul cond disp) m next = (taken : Bool) × BranchLeads m annul (cond == 8) taken (target_of m.pc disp) next
+Goes (FloatBranch annul cond disp) m next = (free : Bool) × BranchLeads m annul (cond == 8) (float_taken cond free) (target_of m.pc disp) next
 Goes _ m next = StandsAt m.npc ((m.npc + 4) % 2 ^ 32) next
 
 -- so each step does
@@ -52,11 +52,15 @@ skips _ = false
 abbrev pub back_by : Instr → ℕ
 back_by i = if skips i then 12 else 8
 
--- a return leads so far behind what r15 or r31 has
+-- the register that a jump starts from
+abbrev pub jumps_from : Instr → ℕ
+jumps_from (Jmpl rd rs1 second) = rs1
+jumps_from _ = 0
+
+-- a return starts from r15 or r31, and leads so far behind what that register has
 pub record LeadsBack (m : Machine) (i : Instr) (next : Machine) : Type 0 where
-  pub link : ℕ
-  pub either : (link ≡ 15) ⊎ (link ≡ 31)
-  pub behind : next.npc ≡ (register_of m link + back_by i) % 2 ^ 32
+  pub either : (jumps_from i ≡ 15) ⊎ (jumps_from i ≡ 31)
+  pub behind : next.npc ≡ (register_of m (jumps_from i) + back_by i) % 2 ^ 32
 
 abbrev pub ReturnsLeadBack : Type 0
 ReturnsLeadBack =

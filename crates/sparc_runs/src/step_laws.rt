@@ -44,7 +44,7 @@ pub fn steps_go()
     ensures { StepsGo }
 {}
 
-/// A return leads eight bytes behind what r15 or r31 has, or twelve where it skips a word.
+/// A return starts from r15 or r31, and leads eight bytes behind what that register has, or twelve where it skips a word.
 pub fn returns_lead_back()
     ensures { ReturnsLeadBack }
 {}
