@@ -10,7 +10,8 @@ use Rattle.std.proofs.lemmas.List.Elements.{All-contains, All-contains_itself, A
 use Rattle.bt_image.specs.Image.{is_code}
 use Rattle.value_lattice.proofs.LeastLemmas.{head_or_tail}
 use Rattle.value_lattice.proofs.MayLemmas.{may_have_more, may_be_any}
-use Rattle.value_lattice.proofs.SetLemmas.{same_rising, place_of_below}
+use Rattle.bt_base.proofs.RisingLists.{same_rising}
+use Rattle.value_lattice.proofs.SetLemmas.{place_of_below}
 use Rattle.value_lattice.proofs.TestLemmas.{member_decides, may_have_decides, ordered}
 use Rattle.value_lattice.proofs.WordsBelowLemmas.{words_rise, words_fit, words_pass, passing_is_there, passed, passes_from, IsPassed}
 use Rattle.value_lattice.specs.Order.{place_of, word_at, rank_of}
