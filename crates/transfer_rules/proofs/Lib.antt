@@ -1,0 +1,2 @@
+pub mod FactKinds
+pub mod FactOrder
