@@ -1,12 +1,23 @@
 -- Masks as sets: what their bits say of which cells they have.
 use Rattle.std.proofs.Common.{◌≡◌, ◌≢◌, ℕ, zero, suc, ◌+◌, ◌^◌, ◌%◌, ◌<◌, ◌≤◌, max, ◌⊎◌, inl, inr, ◌||◌, Bool, true, false, refl, sym, ap, subst, ◌∙◌, arith, eq-eqb}
-use Rattle.std.specs.Prelude.{◌==◌, bit_or}
+use Rattle.std.specs.Prelude.{◌==◌, bit_or, nat_lt}
 use Rattle.std.specs.Int.{bit_at}
-use Rattle.std.proofs.lemmas.Bool.{cases_eq, cases_lt, eqb-true}
+use Rattle.std.proofs.lemmas.Bool.{and_from, and_parts, cases_eq, cases_lt, eqb-true, lt-ltb, ltb-true}
 use Rattle.std.proofs.lemmas.Bool.Decides.{nat_tests}
 use Rattle.std.proofs.lemmas.Nat.{or_lt, or_mod, le_or_l, pow_below}
 use Rattle.std.proofs.lemmas.Nat.Bits.{bit_at_lowest, bit_at-zero, bit_at_or, bit_at-pow_same, bit_at-pow_other, bit_at-lt, bit_at_above, same_from_bits}
-use Rattle.call_effects.specs.Mask.{IsMask, has_cell, with_cell, union, is_within, MasksAreSets}
+use Rattle.call_effects.specs.Mask.{IsMask, is_mask, TestDecidesMasks, has_cell, with_cell, union, is_within, MasksAreSets}
+
+-- the test of numbers decides which are sets of cells
+pub test_decides_masks : TestDecidesMasks
+test_decides_masks mask = (is, to) where
+  is : is_mask mask ≡ true → IsMask mask
+  is passes =
+      let parts = and_parts (nat_lt mask (2 ^ 48)) (mask % 2 == 0) passes in
+      record { below = ltb-true mask (2 ^ 48) parts.0; even = eqb-true (mask % 2) 0 parts.1 }
+
+  to : IsMask mask → is_mask mask ≡ true
+  to is = and_from (nat_lt mask (2 ^ 48)) (mask % 2 == 0) (lt-ltb mask (2 ^ 48) is.below) (eq-eqb (mask % 2) 0 is.even)
 
 -- a bit is 0 or 1
 pub bit : (n k : ℕ) → (bit_at n k ≡ 0) ⊎ (bit_at n k ≡ 1)

@@ -1,5 +1,5 @@
 -- Sets of cells, as numbers whose bit c stands for cell c.
-use Rattle.std.specs.Prelude.{◌==◌, ◌≡◌, ◌≢◌, ℕ, ◌+◌, ◌-◌, ◌*◌, ◌/◌, ◌%◌, ◌^◌, ◌<◌, ◌≤◌, ◌||◌, ◌↔◌, Bool, true, Option, Some, None, bit_or, nat_lt, if◌then◌else◌}
+use Rattle.std.specs.Prelude.{◌==◌, ◌≡◌, ◌≢◌, ℕ, ◌+◌, ◌-◌, ◌*◌, ◌/◌, ◌%◌, ◌^◌, ◌<◌, ◌≤◌, ◌&&◌, ◌||◌, ◌↔◌, Bool, true, Option, Some, None, bit_or, nat_lt, if◌then◌else◌}
 use Rattle.std.specs.Int.{bit_at}
 use Rattle.call_effects.specs.Cell.{cell_of}
 
@@ -7,6 +7,14 @@ use Rattle.call_effects.specs.Cell.{cell_of}
 pub record IsMask (mask : ℕ) : Type 0 where
   pub below : mask < 2 ^ 48
   pub even : mask % 2 ≡ 0
+
+-- whether a number is a set of cells from 1 to 47
+abbrev pub is_mask : ℕ → Bool
+is_mask mask = nat_lt mask (2 ^ 48) && (mask % 2 == 0)
+
+-- the test decides what is a set of cells
+abbrev pub TestDecidesMasks : Type 0
+TestDecidesMasks = (mask : ℕ) → (is_mask mask ≡ true) ↔ IsMask mask
 
 -- whether a cell is in the set
 abbrev pub has_cell : ℕ → ℕ → Bool

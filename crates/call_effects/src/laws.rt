@@ -1,10 +1,15 @@
 //! Facts about cells and their sets: each is the contract of a function that does nothing.
 ghost use Rattle.call_effects.specs.Cell.{CellsTellRegistersApart};
-ghost use Rattle.call_effects.specs.Mask.{MasksAreSets, MasksStayMasks, CallsWriteWhatStands, LargerMasksWriteMore};
+ghost use Rattle.call_effects.specs.Mask.{TestDecidesMasks, MasksAreSets, MasksStayMasks, CallsWriteWhatStands, LargerMasksWriteMore};
 
 /// Registers of one window have cells of their own.
 pub fn cells_tell_registers_apart()
     ensures { CellsTellRegistersApart }
+{}
+
+/// The test of numbers decides which are sets of cells.
+pub fn test_decides_masks()
+    ensures { TestDecidesMasks }
 {}
 
 /// Masks are sets of cells: they are joined, ordered and told apart as sets.

@@ -1,0 +1,4 @@
+pub mod Fact
+pub mod Family
+pub mod Give
+pub mod Lawful
