@@ -1,0 +1,7 @@
+pub mod PartLemmas
+pub mod SourceLemmas
+pub mod StepLemmas
+pub mod TestLemmas
+pub mod NarrowLemmas
+pub mod ResolveLemmas
+pub mod LawLemmas

@@ -1,0 +1,7 @@
+pub mod Source
+pub mod Step
+pub mod Test
+pub mod Narrow
+pub mod Resolve
+pub mod Family
+pub mod Law
