@@ -76,7 +76,7 @@ module _ (image costs : List ℕ) (list : List BoundAssertion) (y : StackFacts) 
   -- where a step leads to, and how it was followed
   pub record Leads (c : Config) (next : Machine) : Type 0 where
     pub holds : Holds image list y x invalid (transfer_of image c.machine) (frames_after c.due next c.frames) next
-    pub followed : (top : Frame) (rest : List Frame) → c.frames ≡ top ∷ rest → IsStepFollowed list y x c (config_after image c next) top rest
+    pub followed : (top : Frame) (rest : List Frame) → c.frames ≡ top ∷ rest → IsStepFollowed image list y x c (config_after image c next) top rest
 
   -- what is asked of the machine where a step begins
   pub record IsAsked (first : Machine) (c : Config) (next : Machine) : Type 0 where
@@ -97,7 +97,7 @@ module _ (image costs : List ℕ) (list : List BoundAssertion) (y : StackFacts) 
     silent : (due : Transfer) (inner : List Frame) (lowest below : Frame) (rest : List Frame) → is_stub list lowest.sub ≡ true
         → ((top : Frame) (under : List Frame) → inner ++ lowest ∷ below ∷ rest ≡ top ∷ under → ArePlain list under → due ≡ Returns → ⊥)
         → (top : Frame) (under : List Frame) → inner ++ lowest ∷ below ∷ rest ≡ top ∷ under
-        → IsStepFollowed list y x (at due (inner ++ lowest ∷ below ∷ rest)) (config_after image (at due (inner ++ lowest ∷ below ∷ rest)) next) top under
+        → IsStepFollowed image list y x (at due (inner ++ lowest ∷ below ∷ rest)) (config_after image (at due (inner ++ lowest ∷ below ∷ rest)) next) top under
     silent due inner lowest below rest stub not_popped top under are = record {
       plain = λ plain. absurd (among list inner lowest (below ∷ rest) stub (subst (λ (l : List Frame). ArePlain list l) (sym are) plain));
       stub = λ is_one plain returns. absurd (not_popped top under are plain returns);
@@ -147,7 +147,7 @@ module _ (image costs : List ℕ) (list : List BoundAssertion) (y : StackFacts) 
           followed = λ up under are.
               subst
               (λ (l : List Frame).
-              IsStepFollowed list y x (at due (top ∷ rest)) (config_after image (at due (top ∷ rest)) next) (head_of top l) (tail_of l))
+              IsStepFollowed image list y x (at due (top ∷ rest)) (config_after image (at due (top ∷ rest)) next) (head_of top l) (tail_of l))
               are
               (record {
                 plain = λ plain. behind.followed;

@@ -37,7 +37,7 @@ module _ (image costs : List ℕ) (list : List BoundAssertion) (y : StackFacts) 
   -- what holds behind a step, and how it was followed
   pub record Behind (due : Transfer) (top : Frame) (rest : List Frame) (m next : Machine) : Type 0 where
     pub holds : Holds image list y x invalid (transfer_of image m) (frames_after due next (top ∷ rest)) next
-    pub followed : IsFollowed y x due (transfer_of image m) top rest m next
+    pub followed : IsFollowed image y x due (transfer_of image m) top rest m next
 
   module _
       (top : Frame)
@@ -128,7 +128,7 @@ module _ (image costs : List ℕ) (list : List BoundAssertion) (y : StackFacts) 
                 high = high;
               })
             ];
-            followed = (goes.called, goes.pc, goes.npc, goes.still);
+            followed = (goes.called, goes.pc, goes.npc, goes.still, goes.whole);
           }
 
       out : IsRunning image invalid (record { machine = m; due = Returns; frames = top ∷ rest })
@@ -155,7 +155,7 @@ module _ (image costs : List ℕ) (list : List BoundAssertion) (y : StackFacts) 
             → AreHanging image y x top rest → AreHigh invalid (top ∷ rest) → Behind Returns top rest m next
         by [] goes waiting plain entered hanging high = record {
           holds = tt;
-          followed = (record { skip = goes.skip; comes = goes.comes; pc = goes.pc; npc = goes.npc; window = goes.window }, tt, goes.still);
+          followed = (record { skip = goes.skip; comes = goes.comes; pc = goes.pc; npc = goes.npc; window = goes.window }, tt, goes.still, goes.whole);
         }
         by (F ∷ rest) goes waiting plain entered hanging high =
             let back : IsBack x F top goes.skip next = record {
@@ -176,7 +176,7 @@ module _ (image costs : List ℕ) (list : List BoundAssertion) (y : StackFacts) 
                 hanging = hanging.1;
                 high = high.2;
               });
-              followed = (record { skip = goes.skip; comes = goes.comes; pc = goes.pc; npc = goes.npc; window = goes.window }, on.edge, goes.still);
+              followed = (record { skip = goes.skip; comes = goes.comes; pc = goes.pc; npc = goes.npc; window = goes.window }, on.edge, goes.still, goes.whole);
             }
 
       -- each step from a machine without a stub's frame

@@ -100,7 +100,7 @@ module _
     followed_at i within before = record {
       holds = holds_at i within before;
       steps = λ less behind top below are.
-          subst (λ (c : Config). IsStepFollowed list y x (here i) c top below) (sym (next_is i less)) ((leads i less behind).followed top below are);
+          subst (λ (c : Config). IsStepFollowed image list y x (here i) c top below) (sym (next_is i less)) ((leads i less behind).followed top below are);
     }
 
 pub runs_followed : RunsAreFollowed

@@ -9,7 +9,7 @@ use Rattle.sparc_runs.specs.High.{AreHigh}
 use Rattle.sparc_runs.specs.Meets.{KeepsStubs, sight_at}
 use Rattle.sparc_runs.specs.Sound.{AreBytes}
 use Rattle.stack_laws.specs.Standing.{AreHanging, AreWaiting, Stands, StackFacts, comes_back, behind_by, place_of, waiting_place, summary_in}
-use Rattle.stack_laws.specs.StepFacts.{AreEntered, ArePlain, HasNoGap, StepFacts, is_stub}
+use Rattle.stack_laws.specs.StepFacts.{AreEntered, ArePlain, PassesNothingOver, HasNoGap, StepFacts, is_stub}
 use Rattle.transfer_rules.specs.Give.{Facts}
 
 -- a machine without a stub's frame: it stands in the frame on top, and each frame below waits
@@ -54,18 +54,19 @@ abbrev pub GoesBack : StackFacts → Frame → List Frame → Machine → Type 0
 GoesBack y G [] next = Unit {0}
 GoesBack y G (F ∷ rest) next = is_some (y (F ∷ rest) (key.Edge (waiting_place F G) (place_of Stays F next))) ≡ true
 
--- how a step is followed: along an edge, by a call, or back behind one
-abbrev pub IsFollowed : StackFacts → Facts → Transfer → Transfer → Frame → List Frame → Machine → Machine → Type 0
-IsFollowed y x Stays after top rest m next = is_some (y (top ∷ rest) (key.Edge (place_of Stays top m) (place_of after top next))) ≡ true
-IsFollowed y x (Calls target address) after top rest m next =
+-- How a step is followed: along an edge, by a call, or back behind one. The delay instruction of a call or a return passes
+-- nothing over.
+abbrev pub IsFollowed : List ℕ → StackFacts → Facts → Transfer → Transfer → Frame → List Frame → Machine → Machine → Type 0
+IsFollowed image y x Stays after top rest m next = is_some (y (top ∷ rest) (key.Edge (place_of Stays top m) (place_of after top next))) ≡ true
+IsFollowed image y x (Calls target address) after top rest m next =
     (is_some (y (top ∷ rest) (key.Call (place_of (Calls target address) top m) target)) ≡ true)
-    × (next.pc ≡ target) × (next.npc ≡ (target + 4) % 2 ^ 32) × (after ≡ Stays)
-IsFollowed y x Returns after top rest m next = Lands x top next × GoesBack y top rest next × (after ≡ Stays)
+    × (next.pc ≡ target) × (next.npc ≡ (target + 4) % 2 ^ 32) × (after ≡ Stays) × PassesNothingOver image m next
+IsFollowed image y x Returns after top rest m next = Lands x top next × GoesBack y top rest next × (after ≡ Stays) × PassesNothingOver image m next
 
 -- so is each step from a machine without a stub's frame; of a step in a stub's frame only this is said, that where it
 -- pops the lowest one it goes back
-pub record IsStepFollowed (list : List BoundAssertion) (y : StackFacts) (x : Facts) (c next : Config) (top : Frame) (rest : List Frame) : Type 0 where
-  pub plain : ArePlain list (top ∷ rest) → IsFollowed y x c.due next.due top rest c.machine next.machine
+pub record IsStepFollowed (image : List ℕ) (list : List BoundAssertion) (y : StackFacts) (x : Facts) (c next : Config) (top : Frame) (rest : List Frame) : Type 0 where
+  pub plain : ArePlain list (top ∷ rest) → IsFollowed image y x c.due next.due top rest c.machine next.machine
   pub stub : is_stub list top.sub ≡ true → ArePlain list rest → c.due ≡ Returns → Lands x top next.machine × GoesBack y top rest next.machine
 
 -- no machine of a run before a place stands at a gap in a frame that is looked into
@@ -96,7 +97,7 @@ pub record IsFollowedAt (image : List ℕ) (list : List BoundAssertion) (y : Sta
   pub holds : Holds image list y x invalid (config_at image first rest i).due (config_at image first rest i).frames (machine_at image first rest i)
   pub steps : i < length rest → IsBeforeGaps image list x first rest (suc i) → (top : Frame) (below : List Frame)
       → (config_at image first rest i).frames ≡ top ∷ below
-      → IsStepFollowed list y x (config_at image first rest i) (config_at image first rest (suc i)) top below
+      → IsStepFollowed image list y x (config_at image first rest i) (config_at image first rest (suc i)) top below
 
 -- up to its first gap each place of a run is followed
 abbrev pub RunsAreFollowed : Type 0

@@ -9,6 +9,8 @@ use Rattle.call_effects.specs.Summary.{effects_of_stub, is_at_most}
 use Rattle.sparc_machine.specs.Frame.{Frame, Transfer, Stays, Calls, Returns, StepsTo, transfer_of}
 use Rattle.sparc_machine.specs.Machine.{IsMachine}
 use Rattle.sparc_machine.specs.declared.machine.Machine.{Machine}
+use Rattle.sparc_machine.specs.Straight.{code_instruction}
+use Rattle.sparc_runs.specs.Cost.{annuls}
 use Rattle.sparc_runs.specs.Meets.{sight_of}
 use Rattle.sparc_runs.specs.Running.{IsRunning}
 use Rattle.sparc_runs.specs.Window.{IsMasked}
@@ -56,6 +58,10 @@ pub record GoesInside (image : List ℕ) (facts x : Facts) (top : Frame) (m next
   pub stands : Stands image facts (transfer_of image m) top next
   pub writes : WritesCells x top m next
 
+-- a step passes nothing over: its instruction is no branch that annuls
+abbrev pub PassesNothingOver : List ℕ → Machine → Machine → Type 0
+PassesNothingOver image m next = annuls (code_instruction image m.pc) m.pc next.pc ≡ false
+
 -- the frame that the step behind a call pushes
 abbrev pub pushed : ℕ → ℕ → Machine → Frame
 pushed target address next = record { sub = target; caller = address; start = next }
@@ -63,6 +69,7 @@ pushed target address next = record { sub = target; caller = address; start = ne
 -- the delay instruction of a call enters the subprogram, whose frame goes on from it and comes back
 pub record GoesInto (image : List ℕ) (facts x : Facts) (target address : ℕ) (top : Frame) (m next : Machine) : Type 0 where
   pub still : transfer_of image m ≡ Stays
+  pub whole : PassesNothingOver image m next
   pub pc : next.pc ≡ target
   pub npc : next.npc ≡ (target + 4) % 2 ^ 32
   pub called : is_some (facts (key.Call (place_of (Calls target address) top m) target)) ≡ true
@@ -73,6 +80,7 @@ pub record GoesInto (image : List ℕ) (facts x : Facts) (target address : ℕ) 
 -- the delay instruction of a return leads behind the call, in the window of the push
 pub record GoesOut (image : List ℕ) (x : Facts) (top : Frame) (m next : Machine) : Type 0 where
   pub still : transfer_of image m ≡ Stays
+  pub whole : PassesNothingOver image m next
   pub skip : Bool
   pub comes : comes_back (summary_in x top.sub) skip ≡ true
   pub pc : next.pc ≡ (top.caller + behind_by skip) % 2 ^ 32
