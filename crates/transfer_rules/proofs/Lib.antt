@@ -1,2 +1,6 @@
 pub mod FactKinds
 pub mod FactOrder
+pub mod PieceLists
+pub mod HandedValues
+pub mod Rising
+pub mod Fitting
