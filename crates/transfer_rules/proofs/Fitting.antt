@@ -1,8 +1,8 @@
 -- What a key gives fits the keys that it is given for.
-use Rattle.std.proofs.Common.{◌≡◌, ℕ, ◌<◌, ◌&&◌, Bool, true, false, List, [], ◌∷◌, ◌++◌, Option, Some, None, Contains, refl, sym, ap, subst, ◌∙◌, arith}
+use Rattle.std.proofs.Common.{◌≡◌, ℕ, ◌<◌, ◌&&◌, Bool, true, false, List, [], ◌∷◌, ◌++◌, Option, Some, None, refl, sym, ap, ◌∙◌, arith, inl, inr}
 use Rattle.std.specs.Prelude.{◌==◌, not, map, if◌then◌else◌, nat_lt}
 use Rattle.std.specs.List.{All, flat_map}
-use Rattle.std.proofs.lemmas.Bool.{and_from, and_parts, cases_Bool, cases_eq, lt-ltb, ltb-true, ne_eqb, not-true, false≢true}
+use Rattle.std.proofs.lemmas.Bool.{and_from, and_parts, cases_eq, lt-ltb, ltb-true, false≢true}
 use Rattle.std.proofs.lemmas.List.Elements.{All-append, All-cons, All-map, All-nil}
 use Rattle.call_effects.specs.Mask.{IsMask, after_call, is_mask, with_cell}
 use Rattle.call_effects.specs.declared.summary.Summary.{Summary as Effects}
@@ -23,7 +23,7 @@ use Rattle.abs_state.specs.declared.key.Next.TheVariants.{At, Into, Back}
 use Rattle.abs_state.specs.declared.key.Place.{Place}
 use Rattle.transfer_rules.proofs.FactKinds.{fitting}
 use Rattle.transfer_rules.proofs.HandedValues.{arguments_fit, entered_over}
-use Rattle.transfer_rules.specs.Fact.{Piece, effects_in, fits, is_fact_over, is_shallow, names_depths, state_in}
+use Rattle.transfer_rules.specs.Fact.{Piece, effects_in, fits, is_fact_over, is_shallow, state_in}
 use Rattle.transfer_rules.specs.Family.{Family, Program}
 use Rattle.transfer_rules.specs.Give.{Facts, act_beside, act_entered, act_gives, act_here, arguments, behind, beside, beside_to, called, called_effects, called_to, callee_of, delayed, effects, entered, entered_to, entry_of, exits, gap, given_if, gives, goes, here, here_to, is_behind, is_known, is_written, jumped_to, mask_of, mask_of_write, node_gives, onward, pieces_of, place, starts}
 use Rattle.transfer_rules.specs.Lawful.{IsLawfulFamily, IsLawfulProgram, is_over_or_none}

@@ -1,7 +1,7 @@
 -- What a call hands on: the values of cells, of arguments, and the state at the entry of what is called.
-use Rattle.std.proofs.Common.{◌≡◌, ℕ, ◌<◌, ◌≤◌, ◌&&◌, Bool, true, false, List, [], ◌∷◌, length, refl, sym, ap, subst, ◌∙◌, arith, inl, inr}
-use Rattle.std.specs.Prelude.{◌==◌, map, slice_index_or, if◌then◌else◌}
-use Rattle.std.specs.List.{All, list_all}
+use Rattle.std.proofs.Common.{◌≡◌, ℕ, ◌&&◌, true, List, [], ◌∷◌, length, refl, sym, subst, arith, inl, inr}
+use Rattle.std.specs.Prelude.{◌==◌, map}
+use Rattle.std.specs.List.{list_all}
 use Rattle.std.proofs.lemmas.Bool.{and_from, and_parts, cases_lt, false≢true}
 use Rattle.std.proofs.lemmas.List.{get_or_past}
 use Rattle.call_effects.specs.Cell.{cell_of}
@@ -10,10 +10,10 @@ use Rattle.value_lattice.specs.Height.{are_at_most}
 use Rattle.value_lattice.specs.Least.{top}
 use Rattle.value_lattice.specs.Test.{is_at_most, is_inside, is_over, is_value}
 use Rattle.value_lattice.specs.Thresholds.{IsThresholds}
-use Rattle.value_lattice.specs.Value.{IsOver, is_ret}
+use Rattle.value_lattice.specs.Value.{is_ret}
 use Rattle.value_lattice.specs.declared.value.Value.{Value}
 use Rattle.value_lattice.specs.declared.value.Value.TheVariants.{Words, Range, Ret}
-use Rattle.abs_state.proofs.CellsLemmas.{cells_at, cells_length, over_all}
+use Rattle.abs_state.proofs.CellsLemmas.{cells_at, over_all}
 use Rattle.abs_state.proofs.OrderLemmas.{stands}
 use Rattle.abs_state.proofs.StateLemmas.{top_is_value}
 use Rattle.abs_state.proofs.WriteLemmas.{any_over, writes_keep_order, writes_stand}

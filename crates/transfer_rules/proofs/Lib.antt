@@ -4,3 +4,5 @@ pub mod PieceLists
 pub mod HandedValues
 pub mod Rising
 pub mod Fitting
+pub mod Lengths
+pub mod System

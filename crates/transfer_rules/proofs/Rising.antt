@@ -1,9 +1,9 @@
 -- Over lesser facts, and over more thresholds, a key gives no more.
-use Rattle.std.proofs.Common.{◌≡◌, ℕ, ◌&&◌, ◌||◌, Bool, true, false, List, [], ◌∷◌, ◌++◌, length, Option, Some, None, Contains, IsTrue, refl, sym, ap, subst, ◌∙◌, arith}
+use Rattle.std.proofs.Common.{◌≡◌, ℕ, Bool, true, false, List, [], ◌∷◌, ◌++◌, Option, Some, None, refl, sym, ap, subst, ◌∙◌}
 use Rattle.std.specs.Prelude.{◌==◌, not, if◌then◌else◌}
 use Rattle.std.specs.List.{list_any}
-use Rattle.std.proofs.lemmas.Bool.{and_from, and_parts, both_ways, cases_Bool, false≢true, not-true, not_from_false}
-use Rattle.call_effects.specs.Mask.{after_call, is_within}
+use Rattle.std.proofs.lemmas.Bool.{and_from, and_parts, false≢true}
+use Rattle.call_effects.specs.Mask.{after_call}
 use Rattle.call_effects.specs.Summary.{is_at_most as are_effects_at_most}
 use Rattle.call_effects.specs.declared.summary.Summary.{Summary as Effects}
 use Rattle.call_effects.proofs.CallLemmas.{larger_masks_write_more}
@@ -12,9 +12,8 @@ use Rattle.value_lattice.proofs.TestLemmas.{the_order_is_one}
 use Rattle.value_lattice.specs.Test.{is_at_most as is_value_at_most}
 use Rattle.value_lattice.specs.Value.{is_ret}
 use Rattle.value_lattice.specs.declared.value.Value.TheVariants.{Ret}
-use Rattle.abs_state.proofs.OrderLemmas.{states_are_ordered}
-use Rattle.abs_state.proofs.WriteLemmas.{writes_keep_order, writes_stand}
-use Rattle.abs_state.specs.State.{State, cell_at, entry_state, is_at_most as is_state_at_most, is_state_over, without}
+use Rattle.abs_state.proofs.WriteLemmas.{writes_keep_order}
+use Rattle.abs_state.specs.State.{State, cell_at, entry_state, is_at_most as is_state_at_most, without}
 use Rattle.abs_state.specs.declared.key.GapKind.TheVariants as why
 use Rattle.abs_state.specs.declared.key.Key.{Key}
 use Rattle.abs_state.specs.declared.key.Key.TheVariants as key

@@ -1,5 +1,5 @@
 -- What a program point gives over the facts.
-use Rattle.std.specs.Prelude.{◌==◌, ◌≡◌, ℕ, ◌+◌, ◌%◌, ◌^◌, Bool, true, false, not, ◌&&◌, ◌||◌, List, [], ◌∷◌, ◌++◌, map, Option, Some, None, if◌then◌else◌, nat_lt}
+use Rattle.std.specs.Prelude.{◌==◌, ℕ, ◌+◌, ◌%◌, ◌^◌, Bool, true, false, not, ◌&&◌, List, [], ◌∷◌, ◌++◌, map, Option, Some, None, if◌then◌else◌, nat_lt}
 use Rattle.std.specs.List.{flat_map, list_any}
 use Rattle.call_effects.specs.Cell.{cell_of}
 use Rattle.call_effects.specs.Mask.{with_cell, after_call}
@@ -23,7 +23,6 @@ use Rattle.jump_resolve.specs.declared.resolved.Resolved.{Resolved}
 use Rattle.transfer_rules.specs.Family.{Family, Program}
 use Rattle.transfer_rules.specs.declared.act.Act.{Act}
 use Rattle.transfer_rules.specs.declared.act.Act.TheVariants.{Dead, Open, Acts}
-use Rattle.transfer_rules.specs.declared.act.Aim.{Aim}
 use Rattle.transfer_rules.specs.declared.act.Exit.{Exit}
 use Rattle.transfer_rules.specs.declared.act.Way.{Way}
 use Rattle.transfer_rules.specs.declared.act.Way.TheVariants.{Onward, Forks, CallsTo, JumpsTo, ReturnsBy}
