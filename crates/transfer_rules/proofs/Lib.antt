@@ -7,3 +7,4 @@ pub mod Fitting
 pub mod Lengths
 pub mod System
 pub mod Giving
+pub mod Closing

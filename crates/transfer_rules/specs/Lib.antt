@@ -3,3 +3,4 @@ pub mod Family
 pub mod Give
 pub mod Lawful
 pub mod Given
+pub mod Closed

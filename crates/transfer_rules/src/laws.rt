@@ -1,4 +1,5 @@
 //! Facts about the rules: each is the contract of a function that does nothing.
+ghost use Rattle.transfer_rules.specs.Closed.{ClosedCalls, ClosedHasGaps, ClosedHasThree, ClosedLeadsOn, ClosedSays, ClosedStarts};
 ghost use Rattle.transfer_rules.specs.Given.{ArgumentsAreNoReturnAddress, BranchesLeadToExits, CallsEnterDelays, CallsKeepTheRest, GapsAreEnds, OnlyPlacesGive, PlacesHaveEdges, PlacesSpeakOfTheirs, StubsKeepLocals, WritesAreSaid};
 ghost use Rattle.transfer_rules.specs.Lawful.{MoreThresholdsAreFiner, RulesAreLawful};
 
@@ -64,4 +65,38 @@ pub fn arguments_are_no_return_address()
 /// What a step writes is said of its subprogram, also where no run goes on.
 pub fn writes_are_said()
     ensures { WritesAreSaid }
+{}
+
+/// A closed state has what is said beside an instruction, the program points of the same subprogram behind it, and the entries
+/// of what it calls.
+pub fn closed_has_three()
+    ensures { ClosedHasThree }
+{}
+
+/// In a closed state an instruction leads on: to where control was to go, in the directions of a branch that are open, and to
+/// the delay instruction of a call, a jump or a return.
+pub fn closed_leads_on()
+    ensures { ClosedLeadsOn }
+{}
+
+/// A closed state has a gap where an instruction isn't followed, where the targets aren't all known, where a return may go
+/// elsewhere, and where one is made in the window behind a SAVE.
+pub fn closed_has_gaps()
+    ensures { ClosedHasGaps }
+{}
+
+/// In a closed state the delay instruction of a call makes the call, enters what is called unless that is a stub, and comes
+/// back from it where it returns or skips a word.
+pub fn closed_calls()
+    ensures { ClosedCalls }
+{}
+
+/// A closed state says of each subprogram what its instructions write, what its calls may write, and how it comes back.
+pub fn closed_says()
+    ensures { ClosedSays }
+{}
+
+/// A closed state has the entries of the roots, and what the stubs may do.
+pub fn closed_starts()
+    ensures { ClosedStarts }
 {}
