@@ -1,0 +1,3 @@
+pub mod MirrorLemmas
+pub mod SourceLemmas
+pub mod StateLemmas
