@@ -1,6 +1,8 @@
 pub mod ActLemmas
 pub mod CodeLemmas
+pub mod DoLemmas
 pub mod FollowLemmas
+pub mod LeadLemmas
 pub mod MirrorLemmas
 pub mod ReadLemmas
 pub mod SourceLemmas
