@@ -92,21 +92,23 @@ later y ys a there = (suc there.0, omega (arith, there.1), there.2)
 first : (y : ℕ) (ys : List ℕ) → Contains (y ∷ ys) y
 first y ys = (0, omega arith, refl)
 
+read_by : (image rest words : List ℕ) (b a : ℕ) (o : Option ℕ) (p : Option (List ℕ)) → word image b ≡ o → ((ws : List ℕ) → p ≡ Some ws → Contains rest a → IsRead image ws a)
+    → option_and_then (λ w. option_map (λ ws. word_of w ∷ ws) p) o ≡ Some words → Contains (b ∷ rest) a → IsRead image words a
+read_by image rest words b a None p here more is there = cc
+read_by image rest words b a (Some w) None here more is there = cc
+read_by image rest words b a (Some w) (Some ws) here more is there =
+    let same : word_of w ∷ ws ≡ words = cc in
+    elim (head_or_tail b rest a there) [
+      | inl now ↦ (record { read = w; stands = ap (word image) now ∙ here; there = subst (λ (xs : List ℕ). Contains xs (word_of w)) same (first (word_of w) ws) })
+      | inr after ↦
+          (let r : IsRead image ws a = more ws refl after in
+          record { read = r.read; stands = r.stands; there = subst (λ (xs : List ℕ). Contains xs (word_of r.read)) same (later (word_of w) ws (word_of r.read) r.there) })
+    ]
+
 pub are_read : (image addresses words : List ℕ) → words_at image addresses ≡ Some words → (a : ℕ) → Contains addresses a → IsRead image words a
 are_read image [] words are a there = absurd (omega (arith, there.1))
-are_read image (b ∷ rest) words are a there = by_word (word image b) refl (words_at image rest) refl are where
-  by_word : (o : Option ℕ) → word image b ≡ o → (p : Option (List ℕ)) → words_at image rest ≡ p
-      → option_and_then (λ w. option_map (λ ws. word_of w ∷ ws) p) o ≡ Some words → IsRead image words a
-  by_word None here p more is = cc
-  by_word (Some w) here None more is = cc
-  by_word (Some w) here (Some ws) more is =
-      let same : word_of w ∷ ws ≡ words = cc in
-      elim (head_or_tail b rest a there) [
-        | inl now ↦ (record { read = w; stands = ap (word image) now ∙ here; there = subst (λ (xs : List ℕ). Contains xs (word_of w)) same (first (word_of w) ws) })
-        | inr after ↦
-            (let r : IsRead image ws a = are_read image rest ws more a after in
-            record { read = r.read; stands = r.stands; there = subst (λ (xs : List ℕ). Contains xs (word_of r.read)) same (later (word_of w) ws (word_of r.read) r.there) })
-      ]
+are_read image (b ∷ rest) words are a there =
+    read_by image rest words b a (word image b) (words_at image rest) refl (λ ws more also. are_read image rest ws more a also) are there
 
 -- what is read of addresses whose words are among some
 pub record AreReadIn (image addresses words : List ℕ) : Type 0 where
