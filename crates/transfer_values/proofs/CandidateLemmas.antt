@@ -1,25 +1,25 @@
 -- The candidates of computed transfers, as functions: they are the functions whose entries stand in words, and the labels in
 -- the extent of an address.
-use Rattle.std.proofs.Common.{◌≡◌, ℕ, zero, suc, ◌+◌, ◌-◌, ◌%◌, ◌^◌, ◌<◌, ◌≤◌, ◌&&◌, ◌||◌, ◌⊎◌, inl, inr, Bool, true, false, eqb, List, [], ◌∷◌, length, get_or, Option, Some, None, Contains, Decides, refl, sym, ap, subst, ◌∙◌, arith, eq-eqb, ⊎_elim}
-use Rattle.std.specs.Prelude.{◌==◌, not, nat_lt, nat_le, is_some, if◌then◌else◌}
+use Rattle.std.proofs.Common.{◌≡◌, ℕ, zero, suc, ◌+◌, ◌-◌, ◌%◌, ◌^◌, ◌<◌, ◌≤◌, ◌&&◌, inl, inr, Bool, true, false, eqb, List, [], ◌∷◌, Option, Some, None, Contains, Decides, refl, sym, ap, subst, ◌∙◌, arith, eq-eqb, ⊎_elim}
+use Rattle.std.specs.Prelude.{◌==◌, not, nat_lt, nat_le, if◌then◌else◌}
 use Rattle.std.specs.List.{All, list_all, list_any, range_with_len}
 use Rattle.std.specs.List.Sorted.{IsStrictlyIncreasing}
 use Rattle.std.specs.Option.{option_map}
 use Rattle.std.specs.Set.{is_member}
-use Rattle.std.proofs.lemmas.Bool.{and_parts, and_from, or_cases, or_left, or_right, cases_Bool, cases_lt, eqb-true, leb-true, ltb-true, le-leb, lt-ltb, false≢true, true≢false}
+use Rattle.std.proofs.lemmas.Bool.{and_parts, and_from, or_cases, or_left, or_right, cases_Bool, cases_lt, eqb-true, leb-true, ltb-true, le-leb, lt-ltb, false≢true}
 use Rattle.std.proofs.lemmas.List.Elements.{All-contains}
 use Rattle.bt_base.proofs.RisingLists.{same_rising, first_there, rest_there}
 use Rattle.bt_image.proofs.LeastLemmas.{first_of-found}
 use Rattle.bt_image.specs.Extent.{IsExtent, Rise}
 use Rattle.bt_image.specs.File.{section_count, word_field}
-use Rattle.bt_image.specs.Image.{is_code, holding, holder, held, place_in, word_of}
+use Rattle.bt_image.specs.Image.{is_code, holding, holder, held, word_of}
 use Rattle.bt_image.specs.Label.{IsCodeIn, IsLabelWithin, IsTaken}
 use Rattle.bt_image.specs.Section.{section_at, is_loaded, is_code_section, is_read_only_section, holds}
 use Rattle.bt_image.specs.Symbol.{functions}
 use Rattle.bt_image.specs.declared.section.Section.{Section}
 use Rattle.value_lattice.proofs.LeastLemmas.{head_or_tail}
 use Rattle.value_lattice.proofs.TestLemmas.{member_decides}
-use Rattle.value_lattice.proofs.WordsBelowLemmas.{words_rise, words_fit, words_pass, passing_is_there}
+use Rattle.value_lattice.proofs.WordsBelowLemmas.{words_rise, words_pass, passing_is_there}
 use Rattle.value_lattice.specs.Passing.{words_below}
 use Rattle.transfer_values.specs.Resolve.{is_word, stands_in_word, taken_functions, is_of, parts, is_within, is_near, is_label, labels_near}
 

@@ -1,5 +1,5 @@
 -- What the code comes to, step by step.
-use Rattle.std.proofs.Common.{◌≡◌, ℕ, suc, ◌+◌, ◌-◌, ◌%◌, ◌^◌, ◌<◌, ◌≤◌, Bool, true, false, List, [], ◌∷◌, ◌++◌, length, get_or, drop, Option, Some, None, refl, sym, ap, subst, ◌∙◌, arith, append_assoc, append-nil}
+use Rattle.std.proofs.Common.{◌≡◌, ℕ, suc, ◌+◌, ◌-◌, ◌^◌, ◌<◌, ◌≤◌, Bool, true, false, List, [], ◌∷◌, ◌++◌, length, get_or, drop, Option, Some, None, refl, sym, ap, subst, ◌∙◌, arith, append_assoc, append-nil}
 use Rattle.std.specs.Prelude.{ℤ, filter, if◌then◌else◌}
 use Rattle.std.specs.List.{range_with_len}
 use Rattle.std.proofs.lemmas.List.Elements.{All-contains}
@@ -8,7 +8,7 @@ use Rattle.std.proofs.lemmas.List.{at_drop_more, at_drop_all}
 use Rattle.bt_image.specs.Image.{word}
 use Rattle.value_lattice.proofs.TestLemmas.{over_decides}
 use Rattle.value_lattice.specs.Least.{top}
-use Rattle.value_lattice.specs.Test.{is_over, is_over_or_none as is_value_over_or_none}
+use Rattle.value_lattice.specs.Test.{is_over_or_none as is_value_over_or_none}
 use Rattle.value_lattice.specs.Thresholds.{IsThresholds}
 use Rattle.value_lattice.specs.Value.{IsOver, IsValue, is_some_ret}
 use Rattle.value_lattice.specs.declared.value.Value.{Value}
@@ -25,7 +25,7 @@ use Rattle.abs_state.specs.declared.key.Place.{Place}
 use Rattle.transfer_rules.specs.declared.step.Source.{Source}
 use Rattle.transfer_rules.specs.declared.step.Source.TheVariants.{Anything, Exactly, Ranged, Applied, Loaded}
 use Rattle.transfer_rules.specs.declared.step.Step.{Step}
-use Rattle.transfer_values.specs.Narrow.{narrowed_to, narrowed_by, narrowed}
+use Rattle.transfer_values.specs.Narrow.{narrowed_to, narrowed_by, narrowed_from, narrowed}
 use Rattle.transfer_values.specs.Source.{word_of, operand, is_aligned, words_at, loaded_from, loaded, ranged, source_value}
 use Rattle.transfer_values.specs.Step.{outcome, written, flagged, stepped}
 use Rattle.transfer_values.specs.Test.{left_with}
@@ -176,32 +176,37 @@ keep_over t s c r b u is fits over words some =
     some_over t (left_with c s r) u (left_over t s c r fits over words) (sym (if_true b u (left_with c s r) is some))
 
 -- one register more is narrowed
-pub narrow_begins : (t : List ℕ) (list : List BoundAssertion) (p : Place) (s u : State) → u ≡ s
-    → narrowed_by t list p (range_with_len 1 (32 - 1)) u ≡ narrowed t list p s
-unfolding narrowed
+pub narrow_begins : (t : List ℕ) (list : List BoundAssertion) (p : Place) (s u : State) → u ≡ s → narrowed_from t list p 1 u ≡ narrowed t list p s
+unfolding narrowed narrowed_from
 narrow_begins t list p s u is = ap (narrowed_by t list p (range_with_len 1 31)) is
 
-pub narrow_more : (t : List ℕ) (list : List BoundAssertion) (p : Place) (r : ℕ) (b : Bool) (s u all : State) → r < 32
-    → (if b then Some u else None) ≡ narrowed_to t (range list p.pc r) (cell_of p.depth r) s → b ≡ true
-    → narrowed_by t list p (range_with_len r (32 - r)) s ≡ narrowed t list p all
-    → narrowed_by t list p (range_with_len (r + 1) (32 - (r + 1))) u ≡ narrowed t list p all
-narrow_more t list p r b s u all low is some before =
+from_less : (t : List ℕ) (list : List BoundAssertion) (p : Place) (r : ℕ) (s : State) → r < 32
+    → narrowed_from t list p r s ≡ option_and_then (narrowed_from t list p (r + 1)) (narrowed_to t (range list p.pc r) (cell_of p.depth r) s)
+unfolding narrowed_from
+from_less t list p r s low =
     let e : 32 - r ≡ suc (32 - (r + 1)) = omega arith in
-    let here : Some u ≡ narrowed_to t (range list p.pc r) (cell_of p.depth r) s = if_true b u (narrowed_to t (range list p.pc r) (cell_of p.depth r) s) is some in
-    ap (option_and_then (narrowed_by t list p (range_with_len (r + 1) (32 - (r + 1))))) here
-    ∙ ap (λ (n : ℕ). narrowed_by t list p (range_with_len r n) s) (sym e) ∙ before
+    ap (λ (n : ℕ). narrowed_by t list p (range_with_len r n) s) e
 
-pub narrow_stops : (t : List ℕ) (list : List BoundAssertion) (p : Place) (r : ℕ) (b : Bool) (s u all : State) → r < 32
-    → (if b then Some u else None) ≡ narrowed_to t (range list p.pc r) (cell_of p.depth r) s → b ≡ false
-    → narrowed_by t list p (range_with_len r (32 - r)) s ≡ narrowed t list p all → None ≡ narrowed t list p all
-narrow_stops t list p r b s u all low is none before =
-    let e : 32 - r ≡ suc (32 - (r + 1)) = omega arith in
-    let here : None ≡ narrowed_to t (range list p.pc r) (cell_of p.depth r) s = if_false b u (narrowed_to t (range list p.pc r) (cell_of p.depth r) s) is none in
-    ap (option_and_then (narrowed_by t list p (range_with_len (r + 1) (32 - (r + 1))))) here
-    ∙ ap (λ (n : ℕ). narrowed_by t list p (range_with_len r n) s) (sym e) ∙ before
+from_end : (t : List ℕ) (list : List BoundAssertion) (p : Place) (r : ℕ) (s : State) → 32 ≤ r → narrowed_from t list p r s ≡ Some s
+unfolding narrowed_from
+from_end t list p r s past = let e : 32 - r ≡ 0 = omega arith in ap (λ (n : ℕ). narrowed_by t list p (range_with_len r n) s) e
+
+pub narrow_more : (t : List ℕ) (list : List BoundAssertion) (p : Place) (r c : ℕ) (o : Option (ℤ × ℤ)) (b : Bool) (s u all : State) → r < 32
+    → o ≡ range list p.pc r → c ≡ cell_of p.depth r → (if b then Some u else None) ≡ narrowed_to t o c s → b ≡ true
+    → narrowed_from t list p r s ≡ narrowed t list p all → narrowed_from t list p (r + 1) u ≡ narrowed t list p all
+narrow_more t list p r c o b s u all low asserted cell is some before =
+    ap (option_and_then (narrowed_from t list p (r + 1)))
+    (if_true b u (narrowed_to t o c s) is some ∙ ap (λ (x : Option (ℤ × ℤ)). narrowed_to t x c s) asserted ∙ ap (λ (k : ℕ). narrowed_to t (range list p.pc r) k s) cell)
+    ∙ sym (from_less t list p r s low) ∙ before
+
+pub narrow_stops : (t : List ℕ) (list : List BoundAssertion) (p : Place) (r c : ℕ) (o : Option (ℤ × ℤ)) (b : Bool) (s u all : State) → r < 32
+    → o ≡ range list p.pc r → c ≡ cell_of p.depth r → (if b then Some u else None) ≡ narrowed_to t o c s → b ≡ false
+    → narrowed_from t list p r s ≡ narrowed t list p all → None ≡ narrowed t list p all
+narrow_stops t list p r c o b s u all low asserted cell is none before =
+    ap (option_and_then (narrowed_from t list p (r + 1)))
+    (if_false b u (narrowed_to t o c s) is none ∙ ap (λ (x : Option (ℤ × ℤ)). narrowed_to t x c s) asserted ∙ ap (λ (k : ℕ). narrowed_to t (range list p.pc r) k s) cell)
+    ∙ sym (from_less t list p r s low) ∙ before
 
 pub narrow_ends : (t : List ℕ) (list : List BoundAssertion) (p : Place) (r : ℕ) (s all : State) → 32 ≤ r
-    → narrowed_by t list p (range_with_len r (32 - r)) s ≡ narrowed t list p all → Some s ≡ narrowed t list p all
-narrow_ends t list p r s all past before =
-    let e : 32 - r ≡ 0 = omega arith in
-    sym (ap (λ (n : ℕ). narrowed_by t list p (range_with_len r n) s) e) ∙ before
+    → narrowed_from t list p r s ≡ narrowed t list p all → Some s ≡ narrowed t list p all
+narrow_ends t list p r s all past before = sym (from_end t list p r s past) ∙ before

@@ -1,17 +1,16 @@
 -- What a step writes has the word that is written, and targets that are whole have the address to which a transfer goes.
-use Rattle.std.proofs.Common.{◌≡◌, ℕ, ◌%◌, ◌^◌, ◌<◌, ◌≤◌, Bool, true, false, List, [], ◌∷◌, length, Option, Some, None, Contains, refl, sym, ap, subst, ◌∙◌, arith, eq-eqb, ⊎_elim}
-use Rattle.std.specs.Prelude.{◌==◌, ℤ, filter, int_le, IfSome, if◌then◌else◌}
+use Rattle.std.proofs.Common.{◌≡◌, ℕ, ◌%◌, ◌^◌, ◌<◌, Bool, true, false, List, [], ◌∷◌, Option, Some, None, Contains, refl, sym, subst, arith, eq-eqb, ⊎_elim}
+use Rattle.std.specs.Prelude.{ℤ, filter, int_le, IfSome, if◌then◌else◌}
 use Rattle.bt_image.specs.Image.{word, is_code}
 use Rattle.assert_bind.specs.Binding.{listed}
-use Rattle.assert_bind.specs.declared.body.BoundAssertion.{BoundAssertion}
 use Rattle.jump_resolve.proofs.TargetLemmas.{kept_by, is_in_list, targets_are_exact}
-use Rattle.value_lattice.proofs.FunctionLemmas.{cover_is_least, span_is_least, top_is_least}
+use Rattle.value_lattice.proofs.FunctionLemmas.{cover_is_least, span_is_least}
 use Rattle.value_lattice.proofs.MayLemmas.{may_from_has}
 use Rattle.value_lattice.proofs.SetLemmas.{place_of_below}
-use Rattle.value_lattice.specs.Least.{top, cover, span}
-use Rattle.value_lattice.specs.Order.{place_of, rank_of}
+use Rattle.value_lattice.specs.Least.{top, span}
+use Rattle.value_lattice.specs.Order.{rank_of}
 use Rattle.value_lattice.specs.Thresholds.{IsThresholds}
-use Rattle.value_lattice.specs.Value.{Has, HasSome, IsBetween, MayHave}
+use Rattle.value_lattice.specs.Value.{Has, HasSome, IsBetween}
 use Rattle.value_lattice.specs.declared.value.Value.{Value}
 use Rattle.value_lattice.specs.declared.value.Value.TheVariants.{Words, Range, Ret}
 use Rattle.value_ops.proofs.ApplyLemmas.{apply_covers}
@@ -21,12 +20,10 @@ use Rattle.value_ops.specs.declared.op.Op.TheVariants.{Add}
 use Rattle.word_ops.specs.Word.{sum_of}
 use Rattle.abs_state.specs.State.{State}
 use Rattle.abs_state.specs.declared.flags.Right.{Right}
-use Rattle.transfer_rules.specs.declared.act.Aim.TheVariants.{Computed}
-use Rattle.transfer_rules.specs.declared.act.Candidates.{Candidates}
-use Rattle.transfer_rules.specs.declared.step.Source.TheVariants.{Anything, Exactly, Ranged, Applied, Loaded}
+use Rattle.transfer_rules.specs.declared.step.Source.TheVariants.{Ranged}
 use Rattle.transfer_values.specs.Cover.{HaveWords, SourcesCover, TargetsCover}
 use Rattle.transfer_values.specs.Resolve.{candidates, targets_among, resolved}
-use Rattle.transfer_values.specs.Source.{word_of, operand, is_aligned, words_at, covered, loaded_from, loaded, ranged, source_value}
+use Rattle.transfer_values.specs.Source.{word_of, operand, is_aligned, words_at, covered, loaded_from, loaded, source_value}
 use Rattle.transfer_values.proofs.SourceLemmas.{operand_over, IsRead, are_read}
 
 top_has : (w ra : ℕ) → Has top w ra

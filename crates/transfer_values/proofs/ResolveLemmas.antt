@@ -1,16 +1,15 @@
 -- Targets: a lesser state goes to fewer, is known sooner to go nowhere else, and none has more than the widest.
-use Rattle.std.proofs.Common.{◌≡◌, ℕ, ◌+◌, ◌^◌, ◌<◌, ◌≤◌, ◌&&◌, Bool, true, false, eqb, List, [], ◌∷◌, ◌++◌, length, Option, Some, None, Contains, refl, sym, ap, subst, ◌∙◌, arith, length-append}
+use Rattle.std.proofs.Common.{◌≡◌, ℕ, ◌+◌, ◌^◌, ◌<◌, ◌≤◌, ◌&&◌, Bool, true, false, eqb, List, [], ◌∷◌, length, Option, Some, None, Contains, refl, sym, ap, ◌∙◌, arith, length-append}
 use Rattle.std.specs.Prelude.{if◌then◌else◌}
-use Rattle.std.specs.List.{All, find, flat_map}
+use Rattle.std.specs.List.{find}
 use Rattle.std.specs.Option.{option_and_then}
 use Rattle.std.specs.Set.{is_member}
-use Rattle.std.proofs.lemmas.Bool.{and_parts, true≢false}
+use Rattle.std.proofs.lemmas.Bool.{and_parts}
 use Rattle.std.proofs.lemmas.List.Elements.{All-contains}
 use Rattle.bt_image.specs.Section.{is_loaded}
 use Rattle.bt_image.specs.Symbol.{functions}
-use Rattle.assert_bind.specs.Binding.{about, speaks_of, listed, targets_in}
+use Rattle.assert_bind.specs.Binding.{speaks_of, listed, targets_in}
 use Rattle.assert_bind.specs.declared.body.BoundAssertion.{BoundAssertion}
-use Rattle.assert_bind.specs.declared.subject.Subject.{Subject}
 use Rattle.assert_bind.specs.declared.subject.Subject.TheVariants.{Targets}
 use Rattle.jump_resolve.proofs.TargetLemmas.{targets_rise, targets_are_few}
 use Rattle.value_lattice.proofs.SetLemmas.{length_rising_in}
@@ -31,7 +30,6 @@ use Rattle.transfer_rules.specs.declared.act.Aim.TheVariants.{Fixed, Computed}
 use Rattle.transfer_rules.specs.declared.act.Candidates.{Candidates}
 use Rattle.transfer_rules.specs.declared.act.Candidates.TheVariants.{Functions, Labels}
 use Rattle.jump_resolve.specs.Target.{targets}
-use Rattle.jump_resolve.specs.declared.resolved.Resolved.{Resolved}
 use Rattle.transfer_values.specs.Law.{TargetsFall}
 use Rattle.transfer_values.specs.Resolve.{stands_in_word, taken_functions, is_label, is_near, labels, labels_near, candidates, targets_among, resolved, to_of, all_listed, widest}
 use Rattle.transfer_values.specs.Source.{operand}

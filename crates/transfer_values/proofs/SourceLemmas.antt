@@ -1,31 +1,28 @@
 -- What a step writes: it is over the thresholds, and of less, and over more thresholds, at most what it was.
-use Rattle.std.proofs.Common.{◌≡◌, ℕ, suc, ◌%◌, ◌^◌, ◌<◌, ◌≤◌, ◌&&◌, ◌⊎◌, inl, inr, Bool, true, false, eqb, List, [], ◌∷◌, length, get_or, Option, Some, None, Contains, refl, sym, ap, subst, ◌∙◌, arith, eq-eqb, ⊎_elim}
-use Rattle.std.specs.Prelude.{◌==◌, ℤ, filter, int_le, if◌then◌else◌}
-use Rattle.std.specs.List.{All, list_all}
+use Rattle.std.proofs.Common.{◌≡◌, ℕ, suc, ◌^◌, ◌<◌, ◌&&◌, inl, inr, Bool, true, false, eqb, List, [], ◌∷◌, length, get_or, Option, Some, None, Contains, refl, sym, ap, subst, ◌∙◌, arith, ⊎_elim}
+use Rattle.std.specs.Prelude.{filter, int_le, if◌then◌else◌}
 use Rattle.std.specs.Option.{option_map, option_and_then}
 use Rattle.std.specs.Set.{is_member}
-use Rattle.std.proofs.lemmas.Bool.{and_parts, cases_Bool, true≢false}
+use Rattle.std.proofs.lemmas.Bool.{and_parts, true≢false}
 use Rattle.std.proofs.lemmas.List.Elements.{All-contains, Contains-get_or}
 use Rattle.bt_image.specs.Image.{word}
 use Rattle.jump_resolve.proofs.TargetLemmas.{kept_by, kept_from, kept_passes}
-use Rattle.value_lattice.proofs.FunctionLemmas.{cover_is_least, cover_falls, span_is_least, least_of_falls}
+use Rattle.value_lattice.proofs.FunctionLemmas.{cover_falls, least_of_falls}
 use Rattle.value_lattice.proofs.LeastLemmas.{head_or_tail, least_exists}
 use Rattle.value_lattice.proofs.MayLemmas.{one_set, least_has_some}
 use Rattle.value_lattice.proofs.TestLemmas.{over_decides, ordered}
-use Rattle.value_lattice.proofs.ValueLemmas.{no_range_in_set}
 use Rattle.value_lattice.specs.Laws.{AreMore}
 use Rattle.value_lattice.specs.Least.{top, or_top, least_of, cover, span}
 use Rattle.value_lattice.specs.Order.{rank_of}
 use Rattle.value_lattice.specs.Test.{is_over, is_over_or_none, is_at_most, is_less, is_value, is_inside, is_placed, AreOrdered}
 use Rattle.value_lattice.specs.Thresholds.{IsThresholds}
-use Rattle.value_lattice.specs.Value.{IsOver, IsLeast, IsLeastOrNone}
+use Rattle.value_lattice.specs.Value.{IsLeastOrNone}
 use Rattle.value_lattice.specs.declared.value.Value.{Value}
 use Rattle.value_lattice.specs.declared.value.Value.TheVariants.{Words, Range, Ret}
 use Rattle.value_ops.proofs.ApplyLemmas.{apply_over, apply_falls}
 use Rattle.value_ops.specs.Operation.{apply}
 use Rattle.value_ops.specs.declared.op.Op.TheVariants.{Add}
-use Rattle.abs_state.proofs.WriteLemmas.{any_over}
-use Rattle.abs_state.specs.State.{State, cell_at, is_state_over, is_at_most as is_state_at_most}
+use Rattle.abs_state.specs.State.{State, is_state_over, is_at_most as is_state_at_most}
 use Rattle.abs_state.specs.declared.flags.Right.{Right}
 use Rattle.abs_state.specs.declared.flags.Right.TheVariants.{Cell, Word}
 use Rattle.transfer_rules.specs.declared.step.Source.{Source}

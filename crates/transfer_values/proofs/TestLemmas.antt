@@ -1,8 +1,7 @@
 -- What a branch's direction leaves of a state: it may stand where the state may, and of less, and over more thresholds, it
 -- is at most what it was, also where less is known of the condition codes.
-use Rattle.std.proofs.Common.{◌≡◌, ℕ, ◌%◌, ◌&&◌, ◌||◌, ◌⊎◌, inl, inr, Bool, true, false, List, [], ◌∷◌, Option, Some, None, refl, sym, ap, subst, ◌∙◌}
+use Rattle.std.proofs.Common.{◌≡◌, ℕ, ◌%◌, ◌||◌, inl, inr, Bool, true, false, List, [], ◌∷◌, Option, Some, None, refl, sym, ap, subst}
 use Rattle.std.specs.Prelude.{◌==◌, nat_lt, not, if◌then◌else◌}
-use Rattle.std.specs.Option.{option_and_then}
 use Rattle.std.proofs.lemmas.Bool.{and_parts, true≢false}
 use Rattle.value_lattice.proofs.TestLemmas.{the_order_is_one}
 use Rattle.value_lattice.specs.Height.{are_at_most}

@@ -43,7 +43,9 @@ fn as_labels<'a>(image: &Image, pc: u32, extent: (u32, u64), labels: &'a [u32]) 
     requires all { (a : ℕ) → IsLabelWithin image.now extent.0 extent.1 a → Contains labels.now a }
     ensures { result.now ≡ labels_near image.now pc }
 {
-    let _extent = (image, pc, extent);
+    let _image = image;
+    let _pc = pc;
+    let _extent = extent;
     labels
 }
 

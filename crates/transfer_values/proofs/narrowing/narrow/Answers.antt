@@ -1,5 +1,4 @@
-use Rattle.std.proofs.Common.{◌≡◌, sym, ap, subst, ◌∙◌}
-use Rattle.value_lattice.specs.Order.{rank_of}
+use Rattle.std.proofs.Common.{sym, ap, subst, ◌∙◌}
 use Rattle.value_lattice.specs.Test.{is_over_or_none}
 use Rattle.value_lattice.specs.Value.{IsOver, is_some_ret}
 use Rattle.value_refine.proofs.RefineFunctions.{within_over, within_address}
@@ -13,12 +12,12 @@ within-requires c =
 pub keep-requires-clause-words : goal.keep-requires-clause-words
 keep-requires-clause-words c =
     ap is_some_ret c.in_ok-part-in-Some.ensures.value
-    ∙ within_address c.args.t.now c.in_ok-whole-in-Some.whole (rank_of c.in-Some.lo) (rank_of c.in-Some.hi)
+    ∙ within_address c.args.t.now c.in_ok-whole-in-Some.whole _ _
 
 pub returns-in_ok-part-in-Some-clause-over : goal.returns-in_ok-part-in-Some-clause-over
 returns-in_ok-part-in-Some-clause-over c =
     keep_over c.args.t.now c.args.state.now c.args.c c.in_ok-part-in-Some.part c.keep.result c.keep.new.state c.keep.ensures c.requires
     (ap (is_over_or_none c.args.t.now) c.in_ok-part-in-Some.ensures.value
-    ∙ within_over c.args.t.now c.in_ok-whole-in-Some.whole (rank_of c.in-Some.lo) (rank_of c.in-Some.hi) c.are_thresholds.ensures)
+    ∙ within_over c.args.t.now c.in_ok-whole-in-Some.whole _ _ c.are_thresholds.ensures)
     (ap is_some_ret c.in_ok-part-in-Some.ensures.value
-    ∙ within_address c.args.t.now c.in_ok-whole-in-Some.whole (rank_of c.in-Some.lo) (rank_of c.in-Some.hi))
+    ∙ within_address c.args.t.now c.in_ok-whole-in-Some.whole _ _)

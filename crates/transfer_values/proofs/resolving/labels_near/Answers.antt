@@ -1,4 +1,4 @@
-use Rattle.std.proofs.Common.{◌≡◌, sym, ◌∙◌}
+use Rattle.std.proofs.Common.{sym, ◌∙◌}
 use Rattle.transfer_values.proofs.CandidateLemmas.{no_labels}
 use Rattle.transfer_values.proofs.resolving.labels_near.Goals as goal
 

@@ -1,4 +1,8 @@
-use Rattle.std.proofs.Common.{◌≡◌, ◌∷◌, [], Option, subst}
+use Rattle.std.proofs.Common.{rules, ◌≡◌, ◌∷◌, [], ◌∙◌, Option, ap, subst, ℤ}
+use Rattle.std.proofs.lemmas.Int.{to_z-of_z}
+use mir.Val.{SFits, to_z, of_z}
+use mir.Syntax.{w32}
+use Rattle.transfer_values.specs.Source.{ranged}
 use Rattle.std.specs.Prelude.{IfOk}
 use Rattle.value_lattice.specs.declared.value.Value.{Value}
 use Rattle.value_lattice.specs.declared.value.Value.TheVariants.{Words}
@@ -17,8 +21,11 @@ returns-in_ok-word-in-Exactly c =
 
 pub returns-in_ok-ranged-in-Ranged : goal.returns-in_ok-ranged-in-Ranged
 returns-in_ok-ranged-in-Ranged c =
+    let low : SFits w32 c.in-Ranged.lo = search rules in
+    let high : SFits w32 c.in-Ranged.hi = search rules in
     source_ranged c.args.t.now c.args.image.now c.args.state.now c.args.source c.in_ok-ranged-in-Ranged.field-0 c.in-Ranged.lo c.in-Ranged.hi c.in-Ranged.is
-    c.in_ok-ranged-in-Ranged.ensures
+    (c.in_ok-ranged-in-Ranged.ensures ∙ ap (λ (x : ℤ). ranged c.args.t.now x (to_z w32 (of_z w32 c.in-Ranged.hi))) (to_z-of_z w32 c.in-Ranged.lo low)
+    ∙ ap (ranged c.args.t.now c.in-Ranged.lo) (to_z-of_z w32 c.in-Ranged.hi high))
 
 pub returns-in_ok-applied-in-Applied : goal.returns-in_ok-applied-in-Applied
 returns-in_ok-applied-in-Applied c =

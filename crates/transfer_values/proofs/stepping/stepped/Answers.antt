@@ -1,4 +1,4 @@
-use Rattle.std.proofs.Common.{◌≡◌, true, Option, Some, ap, ◌∙◌}
+use Rattle.std.proofs.Common.{ap, ◌∙◌}
 use Rattle.transfer_rules.specs.Lawful.{is_over_or_none}
 use Rattle.transfer_values.proofs.CodeLemmas.{stops_first, stops_second, goes_on}
 use Rattle.transfer_values.proofs.StepLemmas.{stepped_over}

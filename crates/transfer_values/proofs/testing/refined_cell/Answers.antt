@@ -1,7 +1,6 @@
-use Rattle.std.proofs.Common.{◌≡◌, false, Option, sym, ap, subst, ◌∙◌}
+use Rattle.std.proofs.Common.{◌≡◌, false, sym, ap, subst, ◌∙◌}
 use Rattle.std.proofs.lemmas.Result.{IfOk-weaker}
 use Rattle.value_lattice.specs.Value.{IsOver, is_ret, is_some_ret}
-use Rattle.value_lattice.specs.declared.value.Value.{Value}
 use Rattle.value_refine.proofs.RefineFunctions.{refine_address}
 use Rattle.value_refine.specs.Refinement.{refine}
 use Rattle.transfer_values.proofs.CodeLemmas.{cell_is_over, operand_is_over}

@@ -1,9 +1,7 @@
-use Rattle.std.proofs.Common.{◌≡◌, true, Some, Option, sym, ap, subst, ◌∙◌}
+use Rattle.std.proofs.Common.{◌≡◌, true, Some, ap, ◌∙◌}
 use Rattle.std.proofs.lemmas.Result.{IfOk-weaker}
-use Rattle.abs_state.specs.State.{State}
 use Rattle.transfer_rules.specs.Lawful.{is_over_or_none}
-use Rattle.transfer_rules.specs.declared.act.Test.{Test}
-use Rattle.transfer_values.specs.Test.{refined, tested}
+use Rattle.transfer_values.specs.Test.{tested}
 use Rattle.transfer_values.proofs.TestLemmas.{always_is, when_is, tested_over}
 use Rattle.transfer_values.proofs.testing.tested.Goals as goal
 
