@@ -1,8 +1,8 @@
 -- Each instruction does to cells and condition codes what its step says.
-use Rattle.std.proofs.Common.{◌≡◌, ◌≢◌, ℕ, ℤ, pos, negsuc, ◌+◌, ◌-◌, ◌*◌, ◌%◌, ◌^◌, ◌<◌, ◌≤◌, ◌⊎◌, inl, inr, ◌&&◌, ◌||◌, Bool, true, false, List, Option, Some, None, length, refl, sym, ap, subst, ◌∙◌, arith, cond, eqb, eq-eqb}
+use Rattle.std.proofs.Common.{◌≡◌, ℕ, pos, negsuc, ◌+◌, ◌*◌, ◌%◌, ◌^◌, ◌<◌, inl, inr, ◌&&◌, Bool, true, false, List, Option, Some, None, length, refl, sym, ap, subst, ◌∙◌, arith, cond, eqb, eq-eqb}
 use Rattle.std.specs.Prelude.{◌==◌, not, nat_lt, slice_set, if◌then◌else◌}
 use Rattle.std.proofs.lemmas.Bool.{and_parts, cases_lt, eqb-true, false≢true}
-use Rattle.std.proofs.lemmas.Bool.Decides.{nat_tests, eqb_tells}
+use Rattle.std.proofs.lemmas.Bool.Decides.{nat_tests}
 use Rattle.std.proofs.lemmas.Int.{ints}
 use Rattle.std.proofs.lemmas.List.{length-set}
 use Rattle.abs_state.specs.declared.flags.Flags.{Flags as Known}
@@ -10,7 +10,6 @@ use Rattle.abs_state.specs.declared.flags.Flags.TheVariants as flags
 use Rattle.abs_state.specs.declared.key.Place.{Place}
 use Rattle.bt_image.specs.Image.{word}
 use Rattle.bt_image.specs.Refusal.{first_refusal}
-use Rattle.byteorder.specs.Endian.{big_number}
 use Rattle.call_effects.specs.Cell.{cell_of}
 use Rattle.cell_places.proofs.PlaceLemmas.{registers_hold_contents}
 use Rattle.cell_places.specs.Place.{window_at, content_of, with_content, IsAtDepth}
@@ -29,9 +28,9 @@ use Rattle.sparc_decode.specs.declared.instruction.ShiftOp.TheVariants.{Sll, Srl
 use Rattle.sparc_decode.specs.declared.instruction.StoreKind.{StoreKind}
 use Rattle.sparc_decode.specs.declared.instruction.TaggedOp.{TaggedOp}
 use Rattle.sparc_decode.specs.declared.instruction.TaggedOp.TheVariants.{Taddcc, Tsubcc, Taddcctv, Tsubcctv}
-use Rattle.sparc_machine.specs.Effect.{Effect, Done, Trapped, goes_on, flags_in, with_flags, flags_from, is_in_order, in_order, target_of, address_in, alu_result, alu_flags, operated, tagged_result, shift_result, branched, branch_effect, float_taken, jumped, is_invalid, turned, freely_flagged, read_double, read_one, read_into, load_effect, is_odd_double_load, write_trap, store_effect, is_odd_double_store, atomic_effect, float_effect, unless_trapped, product_of, called, effect_of}
+use Rattle.sparc_machine.specs.Effect.{Effect, Done, Trapped, goes_on, flags_in, with_flags, flags_from, is_in_order, in_order, target_of, address_in, alu_result, alu_flags, operated, tagged_result, shift_result, branched, float_taken, jumped, is_invalid, turned, freely_flagged, read_double, read_one, read_into, load_effect, is_odd_double_load, write_trap, store_effect, is_odd_double_store, atomic_effect, float_effect, unless_trapped, product_of, effect_of}
 use Rattle.sparc_machine.specs.Frame.{IsFree, is_return, lets_call}
-use Rattle.sparc_machine.specs.Machine.{IsMachine, register_of, operand_of, with_register, going_to, advanced}
+use Rattle.sparc_machine.specs.Machine.{IsMachine, register_of, operand_of, with_register, going_to}
 use Rattle.sparc_machine.specs.Memory.{constant_bytes, extended, load_size, store_size, atomic_size, float_size, is_float_store, read_number, first_word, second_word, sign_extended}
 use Rattle.sparc_machine.specs.Register.{physical_of}
 use Rattle.sparc_machine.specs.declared.free.Free.{Free}
@@ -43,8 +42,8 @@ use Rattle.sparc_runs.specs.Sound.{AreBytes}
 use Rattle.step_covers.proofs.CodeLemmas.{codes_mean}
 use Rattle.step_covers.proofs.FollowLemmas.{window_kept, flags_kept, register_is, operand_is, new_contents, new_there, new_elsewhere, sets_follow, nothing_follows, going_follows}
 use Rattle.step_covers.proofs.ReadLemmas.{byte_read, half_read, word_is_constant}
-use Rattle.step_covers.specs.Follows.{IsOperandIn, IsResult, IsReadAt, Gives, FlagsFollow, FollowsIn}
-use Rattle.transfer_acts.specs.Act.{act_of, behind, in_line, is_next, call_to, calling, jump_to, is_save, linked, open_instruction, plain, branch, directions, test_of, untested, save, restore, sum_of}
+use Rattle.step_covers.specs.Follows.{Gives, FlagsFollow, FollowsIn}
+use Rattle.transfer_acts.specs.Act.{act_of, behind, in_line, is_next, call_to, calling, jump_to, is_save, linked, open_instruction, plain, directions, test_of, untested, save, restore, sum_of}
 use Rattle.transfer_acts.specs.Flag.{of_operation, where_set}
 use Rattle.transfer_acts.specs.Operand.{register, operand, operation, tagged_operation, shift_operation}
 use Rattle.transfer_acts.specs.Step.{nothing, sets, applied, read, found}
@@ -55,7 +54,7 @@ use Rattle.transfer_rules.specs.declared.act.Candidates.TheVariants.{Functions, 
 use Rattle.transfer_rules.specs.declared.act.Way.{Way}
 use Rattle.transfer_rules.specs.declared.act.Way.TheVariants.{CallsTo, JumpsTo, ReturnsBy}
 use Rattle.transfer_rules.specs.declared.step.Source.{Source}
-use Rattle.transfer_rules.specs.declared.step.Source.TheVariants.{Anything, Exactly, Ranged, Applied, Loaded}
+use Rattle.transfer_rules.specs.declared.step.Source.TheVariants.{Anything, Exactly, Ranged, Loaded}
 use Rattle.transfer_rules.specs.declared.step.Step.{Step}
 use Rattle.value_lattice.specs.Order.{rank_of}
 use Rattle.value_lattice.specs.Value.{IsBetween}
@@ -517,3 +516,9 @@ module _ (image : List ℕ) (free : Free) (cwp : ℕ) (p : Place) (m : Machine) 
   act_follows eight delay (Divide cc' rd rs1 second) range =
       either eight (plain (sets p.depth rd Anything (where_set cc' flags.Unknown))) open_instruction _
       (freely cc' rd free.first Anything range.0 (record { word = within.first; may = within.first })) tt
+
+  -- where the act of an instruction is a step and a way, the machine follows by the step
+  pub step_follows : (eight : Bool) (delay : Option Instr) (i : Instr) (step : Step) (way : Way) (after : Machine) (annulled : Bool) → InRange i
+      → act_of eight p delay i ≡ Acts step way → effect_of image free m i ≡ Done after annulled → FollowsIn image step cwp m after
+  step_follows eight delay i step way after annulled range same does =
+      subst (λ (e : Effect). StepFollows step e) does (subst (λ (act : Act). ActFollows act (effect_of image free m i)) same (act_follows eight delay i range))

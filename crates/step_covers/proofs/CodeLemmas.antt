@@ -1,29 +1,26 @@
 -- The condition codes of an operation are those of the cells that the analysis names.
-use Rattle.std.proofs.Common.{◌≡◌, ◌≢◌, ℕ, ℤ, pos, negsuc, ◌+◌, ◌-◌, ◌%◌, ◌^◌, ◌<◌, ◌⊎◌, inl, inr, ◌&&◌, ◌||◌, Bool, true, false, List, refl, sym, ap, subst, ◌∙◌, arith, cond, eqb, eq-eqb}
+use Rattle.std.proofs.Common.{◌≡◌, ◌≢◌, ℕ, ℤ, pos, ◌^◌, ◌<◌, ◌⊎◌, inl, inr, ◌&&◌, Bool, true, false, refl, sym, ap, subst, ◌∙◌, eq-eqb}
 use Rattle.std.specs.Prelude.{◌==◌, not, nat_le, bit_or, if◌then◌else◌}
 use Rattle.std.specs.Int.Bits.{or_zero_l, or_zero_r}
 use Rattle.std.specs.Ordering.{int_eq}
-use Rattle.std.proofs.lemmas.Bool.{and_parts, eqb-true, false≢true}
-use Rattle.std.proofs.lemmas.Bool.Decides.{nat_tests, eqb_tells, Decides-int_eq}
+use Rattle.std.proofs.lemmas.Bool.{and_parts, false≢true}
+use Rattle.std.proofs.lemmas.Bool.Decides.{eqb_tells, Decides-int_eq}
 use Rattle.abs_state.specs.declared.flags.Flags.{Flags as Known}
-use Rattle.abs_state.specs.declared.flags.Flags.TheVariants.{Unknown, Cmp, Res}
+use Rattle.abs_state.specs.declared.flags.Flags.TheVariants.{Unknown, Cmp}
 use Rattle.abs_state.specs.declared.flags.Right.TheVariants.{Cell, Word}
 use Rattle.call_effects.specs.Cell.{cell_of}
-use Rattle.cell_places.proofs.PlaceLemmas.{registers_hold_contents}
-use Rattle.cell_places.specs.Place.{content_of, IsAtDepth}
 use Rattle.sparc_decode.specs.Instr.{IsOperand}
 use Rattle.sparc_decode.specs.declared.instruction.AluOp.{AluOp}
 use Rattle.sparc_decode.specs.declared.instruction.AluOp.TheVariants.{Add, And, Or, Xor, Sub, Andn, Orn, Xnor, Addx, Subx}
 use Rattle.sparc_decode.specs.declared.instruction.Second.{Second}
 use Rattle.sparc_decode.specs.declared.instruction.Second.TheVariants.{Reg, Imm}
-use Rattle.sparc_machine.specs.Effect.{alu_result, alu_flags, with_flags}
-use Rattle.sparc_machine.specs.Machine.{IsMachine, register_of, with_register, operand_of}
+use Rattle.sparc_machine.specs.Effect.{alu_result, alu_flags}
+use Rattle.sparc_machine.specs.Machine.{IsMachine, register_of, operand_of}
 use Rattle.sparc_machine.specs.declared.machine.Machine.{Machine}
 use Rattle.sparc_runs.proofs.Bounds.{register_word, operand_word as second_word, alu_word}
 use Rattle.sparc_runs.proofs.Meanings.{logic}
 use Rattle.state_covers.specs.Covers.{FlagsMean, ShowsWord, right_in}
-use Rattle.step_covers.proofs.FollowLemmas.{new_there, new_elsewhere}
-use Rattle.transfer_acts.specs.Flag.{of_test, of_result, is_register, keeps_sources, of_difference, of_logic, of_tested, of_or, of_operation}
+use Rattle.transfer_acts.specs.Flag.{of_test, of_result, keeps_sources, of_difference, of_logic, of_tested, of_or, of_operation}
 use Rattle.transfer_acts.specs.Operand.{right_of}
 use Rattle.word_ops.specs.Flags.{flags_of, logic_flags_of, difference_flags_of}
 use Rattle.word_ops.specs.declared.arithmetic.Flags.{Flags}

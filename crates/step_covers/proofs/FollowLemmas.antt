@@ -1,21 +1,20 @@
 -- What the parts of a step of the machine do to cells and condition codes.
-use Rattle.std.proofs.Common.{◌≡◌, ◌≢◌, ℕ, ℤ, pos, ◌+◌, ◌-◌, ◌*◌, ◌%◌, ◌^◌, ◌<◌, ◌≤◌, ◌⊎◌, inl, inr, ◌&&◌, ◌||◌, Bool, true, false, List, Option, Some, None, length, refl, sym, ap, subst, ◌∙◌, arith, cond, eqb}
-use Rattle.std.specs.Prelude.{◌==◌, not, nat_le, slice_index, slice_set, if◌then◌else◌}
-use Rattle.std.proofs.lemmas.Bool.Decides.{nat_tests, eqb_tells}
+use Rattle.std.proofs.Common.{◌≡◌, ◌≢◌, ℕ, ◌^◌, ◌<◌, ◌⊎◌, inl, inr, Bool, true, false, List, Option, refl, sym, ap, subst, ◌∙◌, arith, cond, eqb}
+use Rattle.std.specs.Prelude.{◌==◌, slice_index, slice_set, if◌then◌else◌}
 use Rattle.abs_state.specs.declared.flags.Flags.{Flags as Known}
 use Rattle.call_effects.proofs.CellLemmas.{cells_tell_registers_apart}
 use Rattle.call_effects.specs.Cell.{cell_of}
 use Rattle.cell_places.proofs.PlaceLemmas.{registers_hold_contents, with_content-same, with_content-other, with_content-zero, cell_zero}
-use Rattle.cell_places.specs.Place.{window_at, place_of, content_of, with_content, IsAtDepth}
+use Rattle.cell_places.specs.Place.{place_of, content_of, with_content, IsAtDepth}
 use Rattle.sparc_decode.specs.Instr.{IsOperand}
 use Rattle.sparc_decode.specs.declared.instruction.Second.{Second}
 use Rattle.sparc_decode.specs.declared.instruction.Second.TheVariants.{Reg, Imm}
-use Rattle.sparc_machine.specs.Effect.{flags_in, with_flags}
-use Rattle.sparc_machine.specs.Machine.{IsMachine, register_of, with_register, operand_of, going_to, advanced, charged}
+use Rattle.sparc_machine.specs.Effect.{flags_in}
+use Rattle.sparc_machine.specs.Machine.{IsMachine, register_of, with_register, operand_of, charged}
 use Rattle.sparc_machine.specs.Register.{physical_of}
 use Rattle.sparc_machine.specs.declared.machine.Machine.{Machine}
 use Rattle.sparc_runs.proofs.Bounds.{operand_word as second_word}
-use Rattle.step_covers.specs.Follows.{IsOperandIn, Gives, FlagsFollow, Follows, FollowsIn}
+use Rattle.step_covers.specs.Follows.{IsOperandIn, Gives, FlagsFollow, FollowsIn}
 use Rattle.transfer_acts.specs.Operand.{register, operand}
 use Rattle.transfer_acts.specs.Step.{nothing, sets}
 use Rattle.transfer_rules.specs.declared.step.Source.{Source}

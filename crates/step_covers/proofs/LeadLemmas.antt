@@ -1,9 +1,8 @@
 -- Each instruction goes on as the way of its act says.
-use Rattle.std.proofs.Common.{◌≡◌, ◌≢◌, ℕ, ℤ, pos, ◌+◌, ◌-◌, ◌*◌, ◌%◌, ◌^◌, ◌<◌, ◌⊎◌, inl, inr, ◌&&◌, ◌||◌, Bool, true, false, List, Option, Some, None, refl, sym, ap, subst, ◌∙◌, arith, cond, eqb}
-use Rattle.std.specs.Prelude.{◌==◌, not, if◌then◌else◌}
-use Rattle.std.specs.Ordering.{int_eq}
-use Rattle.std.proofs.lemmas.Bool.{and_parts, eqb-true, false≢true}
-use Rattle.std.proofs.lemmas.Bool.Decides.{nat_tests, eqb_tells}
+use Rattle.std.proofs.Common.{◌≡◌, ℕ, ℤ, ◌+◌, ◌*◌, ◌%◌, ◌^◌, ◌<◌, inl, inr, ◌&&◌, ◌||◌, Bool, true, false, List, Option, Some, None, refl, sym, ap, subst, ◌∙◌, arith}
+use Rattle.std.specs.Prelude.{◌==◌, if◌then◌else◌}
+use Rattle.std.proofs.lemmas.Bool.{false≢true}
+use Rattle.std.proofs.lemmas.Bool.Decides.{eqb_tells}
 use Rattle.abs_state.specs.declared.key.Place.{Place}
 use Rattle.call_effects.proofs.CellLemmas.{cells_tell_registers_apart}
 use Rattle.call_effects.specs.Cell.{cell_of}
@@ -20,31 +19,31 @@ use Rattle.sparc_machine.specs.Effect.{flags_in, float_taken, target_of, address
 use Rattle.sparc_machine.specs.Frame.{instruction_at, is_return, lets_call}
 use Rattle.sparc_machine.specs.Machine.{IsMachine, register_of, operand_of}
 use Rattle.sparc_machine.specs.declared.machine.Machine.{Machine}
-use Rattle.sparc_runs.specs.Going.{StandsAt, Leads, BranchLeads, Goes, LeadsBack, jumps_from, back_by, skips}
+use Rattle.sparc_runs.specs.Going.{StandsAt, Leads, BranchLeads, Goes, LeadsBack, back_by}
 use Rattle.sparc_runs.specs.Running.{returns}
 use Rattle.step_covers.proofs.FollowLemmas.{register_is, operand_is}
-use Rattle.step_covers.specs.Does.{IsSumIn, AimsAt, Jumps, GoesBack, ExitLeads, WayLeads}
+use Rattle.step_covers.specs.Does.{AimsAt, Jumps, ExitLeads, WayLeads}
 use Rattle.step_covers.specs.Says.{IsTaken}
-use Rattle.transfer_acts.specs.Act.{act_of, behind, in_line, is_next, call_to, calling, jump_to, is_save, linked, open_instruction, plain, branch, directions, test_of, untested, taken, untaken, save, restore, sum_of}
+use Rattle.transfer_acts.specs.Act.{act_of, behind, is_next, call_to, calling, jump_to, is_save, linked, open_instruction, plain, branch, directions, test_of, untested, taken, untaken, sum_of}
 use Rattle.transfer_acts.specs.Reading.{is_skip}
 use Rattle.transfer_acts.specs.Step.{nothing, read}
 use Rattle.transfer_rules.specs.declared.act.Act.{Act}
 use Rattle.transfer_rules.specs.declared.act.Act.TheVariants.{Dead, Open, Acts}
 use Rattle.transfer_rules.specs.declared.act.Aim.{Aim}
-use Rattle.transfer_rules.specs.declared.act.Aim.TheVariants.{Fixed, Computed}
+use Rattle.transfer_rules.specs.declared.act.Aim.TheVariants.{Fixed}
 use Rattle.transfer_rules.specs.declared.act.Candidates.{Candidates}
 use Rattle.transfer_rules.specs.declared.act.Candidates.TheVariants.{Functions, Labels}
 use Rattle.transfer_rules.specs.declared.act.Exit.{Exit}
 use Rattle.transfer_rules.specs.declared.act.Test.{Test}
 use Rattle.transfer_rules.specs.declared.act.Test.TheVariants.{Always, When}
 use Rattle.transfer_rules.specs.declared.act.Way.{Way}
-use Rattle.transfer_rules.specs.declared.act.Way.TheVariants.{Onward, Forks, CallsTo, JumpsTo, ReturnsBy}
+use Rattle.transfer_rules.specs.declared.step.Step.{Step}
+use Rattle.transfer_rules.specs.declared.act.Way.TheVariants.{CallsTo, JumpsTo, ReturnsBy}
 use Rattle.word_ops.specs.Condition.{holds_of}
-use Rattle.word_ops.specs.Word.{sum_of as sum_word}
 use Rattle.word_ops.specs.declared.arithmetic.Flags.{Flags}
 
 module _ (image : List ℕ) (cwp : ℕ) (p : Place) (m next : Machine) (machine : IsMachine m) (at : IsAtDepth cwp p.depth m) (pc : m.pc ≡ p.pc)
-    (aligned : next.npc % 4 ≡ 0) where
+    (aligned : (rd rs1 : ℕ) (second : Second) → instruction_at image m.pc ≡ Some (Jmpl rd rs1 second) → address_in m rs1 second % 4 ≡ 0) where
   -- the machine goes on as an act says, if it says anything
   abbrev pub ActLeads : Act → Type 0
   ActLeads Dead = Unit {0}
@@ -131,17 +130,17 @@ module _ (image : List ℕ) (cwp : ℕ) (p : Place) (m next : Machine) (machine 
       → BranchLeads m annul (condition == 8) (float_taken condition free) (target_of m.pc disp) next → ActLeads (branch untested p annul condition disp)
   float_leads annul free condition disp leads =
       either (is_next p.next p.pc) (Acts (nothing p.depth) (directions untested p annul condition (target_of p.pc disp))) open_instruction
-      (fork_leads untested annul (float_taken condition free) condition (target_of p.pc disp) some other tt
+      (fork_leads untested annul (float_taken condition free) condition (target_of p.pc disp) zero_apart eight_apart tt
       (subst (λ (x : ℕ). BranchLeads m annul (condition == 8) (float_taken condition free) (target_of x disp) next) pc leads)) tt
     where
-      some : float_taken condition free ≡ true → (condition == 0) ≡ false
-      some is = elim (eqb_tells condition 0) [
+      zero_apart : float_taken condition free ≡ true → (condition == 0) ≡ false
+      zero_apart is = elim (eqb_tells condition 0) [
         | inl none ↦ absurd (false≢true (sym (ap (λ (c : ℕ). float_taken c free) none.1) ∙ is))
         | inr some ↦ some.0
       ]
 
-      other : float_taken condition free ≡ false → (condition == 8) ≡ false
-      other is = elim (eqb_tells condition 8) [
+      eight_apart : float_taken condition free ≡ false → (condition == 8) ≡ false
+      eight_apart is = elim (eqb_tells condition 8) [
         | inl all ↦ absurd (false≢true (sym is ∙ ap (λ (c : ℕ). float_taken c free) all.1))
         | inr other ↦ other.0
       ]
@@ -159,16 +158,16 @@ module _ (image : List ℕ) (cwp : ℕ) (p : Place) (m next : Machine) (machine 
         by true = jumping call target one leads
         by false = jumping jump target other leads
 
-  sum_aims : (rs1 : ℕ) (second : Second) (candidates : Candidates) → rs1 < 32 → IsOperand second → Leads m m.npc (address_in m rs1 second) next
+  sum_aims : (rs1 : ℕ) (second : Second) (candidates : Candidates) → rs1 < 32 → IsOperand second → address_in m rs1 second % 4 ≡ 0
       → AimsAt (sum_of p rs1 second candidates) (content_of m cwp) (address_in m rs1 second)
-  sum_aims rs1 second candidates near range leads =
+  sum_aims rs1 second candidates near range even =
       record {
         first = register_of m rs1;
         second = operand_of m second;
         is_first = register_is cwp p.depth m at machine rs1 near;
         is_second = operand_is cwp p.depth m at machine second range;
         is = omega arith;
-        aligned = ap (λ (x : ℕ). x % 4) (sym leads.to.after) ∙ aligned;
+        aligned = even;
       }
 
   -- a return
@@ -194,14 +193,14 @@ module _ (image : List ℕ) (cwp : ℕ) (p : Place) (m next : Machine) (machine 
       → ActLeads (jump_to p delay rd rs1 second)
   jump_leads delay rd rs1 second near range here back leads =
       either (rd == 15) (calling p delay (sum_of p rs1 second Functions) (sum_of p rs1 second Labels)) _
-      (linked_leads delay (sum_of p rs1 second Functions) (sum_of p rs1 second Labels) (address_in m rs1 second) (sum_aims rs1 second Functions near range leads)
-      (sum_aims rs1 second Labels near range leads) leads)
+      (linked_leads delay (sum_of p rs1 second Functions) (sum_of p rs1 second Labels) (address_in m rs1 second) (sum_aims rs1 second Functions near range (aligned rd rs1 second here))
+      (sum_aims rs1 second Labels near range (aligned rd rs1 second here)) leads)
       (by (is_return rd rs1 second) refl)
     where
       by : (b : Bool) → is_return rd rs1 second ≡ b
           → ActLeads (if b then Acts (nothing p.depth) (ReturnsBy (cell_of p.depth rs1)) else linked p rd (JumpsTo (sum_of p rs1 second Labels)))
       by true is = back_leads rd rs1 second near here (back is) leads
-      by false is = jumping (sum_of p rs1 second Labels) (address_in m rs1 second) (sum_aims rs1 second Labels near range leads) leads
+      by false is = jumping (sum_of p rs1 second Labels) (address_in m rs1 second) (sum_aims rs1 second Labels near range (aligned rd rs1 second here)) leads
 
   read_leads : (kind : LoadKind) (rd rs1 : ℕ) (second : Second) → StandsAt m.npc ((m.npc + 4) % 2 ^ 32) next → ActLeads (plain (read p.depth kind rd rs1 second))
   read_leads Ld rd rs1 second h = h
@@ -246,3 +245,9 @@ module _ (image : List ℕ) (cwp : ℕ) (p : Place) (m next : Machine) (machine 
   act_leads eight delay (Unknown these) range here back goes = tt
   act_leads eight delay (Multiply cc rd rs1 second) range here back goes = either eight _ open_instruction goes tt
   act_leads eight delay (Divide cc rd rs1 second) range here back goes = either eight _ open_instruction goes tt
+
+  -- where the act of an instruction is a step and a way, the machine goes on by the way
+  pub way_leads : (eight : Bool) (delay : Option Instr) (i : Instr) (step : Step) (way : Way) → InRange i → instruction_at image m.pc ≡ Some i
+      → (returns i ≡ true → LeadsBack m i next) → Goes i m next → act_of eight p delay i ≡ Acts step way
+      → WayLeads image way (content_of m cwp) (flags_in m) m next
+  way_leads eight delay i step way range here back goes same = subst ActLeads same (act_leads eight delay i range here back goes)

@@ -1,5 +1,5 @@
 -- What comparisons mean, and the condition that says the same of the sides exchanged.
-use Rattle.std.proofs.Common.{◌≡◌, ℕ, ◌^◌, ◌%◌, ◌<◌, ◌||◌, Bool, true, false, refl, arith}
+use Rattle.std.proofs.Common.{◌≡◌, ◌||◌, Bool, true, false, refl, arith}
 use Rattle.std.proofs.lemmas.Bool.Decides.{nat_tests}
 use Rattle.value_refine.proofs.ComparisonLemmas.{mirror_is}
 use Rattle.value_refine.specs.Laws.{MirrorExchanges}

@@ -1,8 +1,8 @@
 -- A word that can be read is what a load of its address finds.
-use Rattle.std.proofs.Common.{◌≡◌, ℕ, ◌+◌, ◌-◌, ◌%◌, ◌^◌, ◌==◌, ◌<◌, ◌≤◌, All, ◌⊎◌, inl, inr, Bool, true, false, ◌&&◌, take, drop, List, [], ◌∷◌, Option, Some, None, is_some, refl, sym, ◌∙◌, ap, subst, arith, ⊎_elim}
+use Rattle.std.proofs.Common.{◌≡◌, ℕ, ◌+◌, ◌%◌, ◌^◌, ◌==◌, ◌<◌, ◌≤◌, All, inl, inr, Bool, true, false, take, drop, List, Option, Some, None, is_some, refl, sym, ◌∙◌, ap, arith, ⊎_elim}
 use Rattle.std.specs.Prelude.{if◌then◌else◌}
 use Rattle.std.specs.Option.{option_map}
-use Rattle.std.proofs.lemmas.Bool.{cases_lt, false≢true}
+use Rattle.std.proofs.lemmas.Bool.{cases_lt}
 use Rattle.std.proofs.lemmas.Bool.Decides.{nat_tests}
 use Rattle.std.proofs.lemmas.List.Elements.{All-take, All-drop}
 use Rattle.byteorder.specs.Endian.{big_number}
@@ -12,7 +12,7 @@ use Rattle.bt_image.specs.Image.{holder, holding, held, place_in, bytes, is_read
 use Rattle.bt_image.specs.Least.{first_of}
 use Rattle.bt_image.specs.Refusal.{first_refusal, overlap, overlap_refusal}
 use Rattle.bt_image.specs.Section.{section_at, is_loaded, is_read_only_section, holds, share}
-use Rattle.bt_image.specs.declared.section.Access.TheVariants.{Loaded, ReadOnly}
+use Rattle.bt_image.specs.declared.section.Access.TheVariants.{ReadOnly}
 use Rattle.bt_image.specs.declared.section.Section.{Section}
 use Rattle.bt_image.proofs.LeastLemmas.{first_of-found, first_of-only, none_below, or_none}
 use Rattle.bt_image.proofs.LoadedLemmas.{asks_loaded, holding_cases, holds_means}

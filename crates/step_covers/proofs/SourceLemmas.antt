@@ -1,11 +1,9 @@
 -- The value of a source has each word that the source gives.
-use Rattle.std.proofs.Common.{◌≡◌, ℕ, ℤ, ◌%◌, ◌^◌, ◌<◌, Bool, true, false, List, [], ◌∷◌, Option, Some, None, refl, sym, ap, subst, ◌∙◌, arith}
-use Rattle.abs_state.specs.State.{State, cell_at, is_state_over}
+use Rattle.std.proofs.Common.{◌≡◌, ℕ, ◌^◌, ◌<◌, List, [], ◌∷◌, refl, sym, subst, arith}
+use Rattle.abs_state.specs.State.{State, cell_at}
 use Rattle.abs_state.specs.declared.flags.Right.{Right}
 use Rattle.abs_state.specs.declared.flags.Right.TheVariants.{Cell, Word}
-use Rattle.bt_image.specs.Image.{word}
-use Rattle.state_covers.specs.Covers.{AreContents, Says}
-use Rattle.step_covers.specs.Follows.{IsOperandIn, IsResult, IsReadAt, MayGive, Gives}
+use Rattle.step_covers.specs.Follows.{IsOperandIn, Gives}
 use Rattle.step_covers.specs.Says.{IsRight}
 use Rattle.transfer_rules.specs.declared.step.Source.{Source}
 use Rattle.transfer_rules.specs.declared.step.Source.TheVariants.{Anything, Exactly, Ranged, Applied, Loaded}
@@ -13,7 +11,6 @@ use Rattle.transfer_values.specs.Cover.{HaveWords, SourcesCover}
 use Rattle.transfer_values.specs.Source.{word_of, operand, source_value}
 use Rattle.value_lattice.specs.Value.{Has, HasSome}
 use Rattle.value_lattice.specs.declared.value.Value.TheVariants.{Words}
-use Rattle.word_ops.specs.Word.{sum_of}
 use Rattle.word_ops.specs.declared.arithmetic.Flags.{Flags}
 
 -- one word has itself

@@ -1,16 +1,16 @@
 -- What the functions of the analysis leave of a state that is right.
-use Rattle.std.proofs.Common.{◌≡◌, ◌≢◌, ℕ, ℤ, zero, suc, ◌+◌, ◌%◌, ◌^◌, ◌<◌, ◌≤◌, ◌⊎◌, inl, inr, ◌||◌, ◌&&◌, Bool, true, false, List, [], ◌∷◌, length, Option, Some, None, Contains, refl, sym, ap, subst, ◌∙◌, arith, get_or, eq-eqb}
+use Rattle.std.proofs.Common.{◌≡◌, ℕ, ℤ, suc, ◌+◌, ◌%◌, ◌^◌, ◌<◌, ◌≤◌, ◌⊎◌, inl, inr, ◌||◌, Bool, true, false, List, [], ◌∷◌, length, Option, Some, None, Contains, refl, sym, ap, subst, ◌∙◌, arith, get_or, eq-eqb}
 use Rattle.std.specs.Prelude.{◌==◌, nat_lt, not, slice_set, if◌then◌else◌}
 use Rattle.std.specs.List.{range_with_len}
 use Rattle.std.specs.Option.{option_map, option_and_then}
 use Rattle.std.proofs.lemmas.Bool.{and_from, and_parts, cases_lt, eqb-true, lt-ltb, ltb-true, false≢true}
-use Rattle.std.proofs.lemmas.Bool.Decides.{nat_tests, eqb_tells}
+use Rattle.std.proofs.lemmas.Bool.Decides.{eqb_tells}
 use Rattle.std.proofs.lemmas.List.{get_or_past, length-set}
 use Rattle.std.proofs.lemmas.List.FromFn.{length-range_with_len, get_or-range_with_len}
 use Rattle.abs_state.proofs.FlagsLemmas.{or_cases, or_first, or_second}
 use Rattle.abs_state.proofs.OrderLemmas.{stands}
 use Rattle.abs_state.specs.Flags.{names, is_right_cell}
-use Rattle.abs_state.specs.State.{State, cell_at, is_state_over, with_cell, with_flags, with_value, may_speak, may_name, may_name_right}
+use Rattle.abs_state.specs.State.{State, cell_at, with_cell, with_value, may_speak, may_name, may_name_right}
 use Rattle.abs_state.specs.declared.flags.Flags.{Flags as Known}
 use Rattle.abs_state.specs.declared.flags.Flags.TheVariants.{Unknown, Cmp, Res}
 use Rattle.abs_state.specs.declared.flags.Right.{Right}
@@ -24,23 +24,21 @@ use Rattle.cell_places.specs.Place.{with_content}
 use Rattle.cell_places.proofs.PlaceLemmas.{with_content-same, with_content-other, with_content-zero}
 use Rattle.state_covers.proofs.CoverLemmas.{top_has, writes_say}
 use Rattle.state_covers.proofs.FlagLemmas.{mean_same, conditions_are_known}
-use Rattle.state_covers.specs.Covers.{AreContents, FlagsMean, Says, right_in}
+use Rattle.state_covers.specs.Covers.{AreContents, FlagsMean, Says}
 use Rattle.step_covers.proofs.SourceLemmas.{source_has}
-use Rattle.step_covers.specs.Follows.{Gives, GivesTo, wrote, FlagsFollow, Follows}
-use Rattle.step_covers.specs.Says.{SaysSome, IsRight, SteppedStatesSay, IsTaken, TestedStatesSay, IsInRange, KeepsRanges, NarrowedStatesSay}
-use Rattle.transfer_rules.specs.declared.act.Test.{Test}
+use Rattle.step_covers.specs.Follows.{GivesTo, wrote, FlagsFollow}
+use Rattle.step_covers.specs.Says.{SaysSome, IsRight, SteppedStatesSay, TestedStatesSay, IsInRange, NarrowedStatesSay}
 use Rattle.transfer_rules.specs.declared.act.Test.TheVariants.{Always, When}
-use Rattle.transfer_rules.specs.declared.step.Step.{Step}
 use Rattle.transfer_rules.specs.declared.step.Write.{Write}
-use Rattle.transfer_values.specs.Cover.{SourcesCover}
+use Rattle.transfer_values.proofs.CoverLemmas.{sources_cover}
 use Rattle.transfer_values.specs.Narrow.{narrowed, narrowed_by, narrowed_to}
 use Rattle.transfer_values.specs.Source.{operand, source_value}
-use Rattle.transfer_values.specs.Step.{is_writable, put, written, freed, freed_right, freed_for, with_spoken, flagged, stepped}
-use Rattle.transfer_values.specs.Test.{with_part, left_with, asks_result, spares_right, with_right, refined, tested}
+use Rattle.transfer_values.specs.Step.{is_writable, put, written, freed, freed_right, freed_for, flagged, stepped}
+use Rattle.transfer_values.specs.Test.{left_with, asks_result, spares_right, with_right, refined, tested}
 use Rattle.value_lattice.specs.Least.{top}
 use Rattle.value_lattice.specs.Order.{rank_of}
 use Rattle.value_lattice.specs.Thresholds.{IsThresholds}
-use Rattle.value_lattice.specs.Value.{Has, HasSome, IsBetween, is_ret}
+use Rattle.value_lattice.specs.Value.{Has, HasSome, is_ret}
 use Rattle.value_lattice.specs.declared.value.Value.{Value}
 use Rattle.value_lattice.specs.declared.value.Value.TheVariants.{Words}
 use Rattle.step_covers.proofs.MirrorLemmas.{mirror_exchanges, or_false}
@@ -193,21 +191,21 @@ flagged_says (Some known) s ra contents f next are follow is =
       by false = tt
 
 -- a step, taken apart
-pub steps_say : SourcesCover → SteppedStatesSay
+pub steps_say : SteppedStatesSay
 unfolding stepped
-steps_say cover t image step s ra old new f next is are follows = first (written t image s step.first s) (begun step.first follows.gives_first) where
+steps_say t image step s ra old new f next is are follows = first (written t image s step.first s) (begun step.first follows.gives_first) where
   begun : (o : Option Write) → GivesTo image old o follows.first → IsSoundSome (written t image s o s) ra (wrote o follows.first old) f
   begun None gives = sound_of t s ra old f is
   begun (Some w) gives =
       put_sound w.cell s ra old f follows.first (source_value t image s w.source)
-      (source_has t s ra old f is image w.source follows.first cover gives) (sound_of t s ra old f is)
+      (source_has t s ra old f is image w.source follows.first sources_cover gives) (sound_of t s ra old f is)
 
   more : (o : Option Write) (at : State) (contents : ℕ → ℕ) → GivesTo image old o follows.second → IsSound at ra contents f
       → IsSoundSome (written t image s o at) ra (wrote o follows.second contents) f
   more None at contents gives sound = sound
   more (Some w) at contents gives sound =
       put_sound w.cell at ra contents f follows.second (source_value t image s w.source)
-      (source_has t s ra old f is image w.source follows.second cover gives) sound
+      (source_has t s ra old f is image w.source follows.second sources_cover gives) sound
 
   second : (o : Option State) → IsSoundSome o ra (wrote step.second follows.second (wrote step.first follows.first old)) f
       → SaysSome (option_map (flagged step.flags) o) ra new next
@@ -337,8 +335,7 @@ range_says : (t : List ℕ) (o : Option (ℤ × ℤ)) (c : ℕ) (s : State) (ra 
     → Has48 (narrowed_to t o c s) × SaysSome (narrowed_to t o c s) ra contents f
 range_says t None c s ra contents f is are address low size within says = (size, says)
 range_says t (Some (lo, hi)) c s ra contents f is are address low size inside says =
-    let has = within_has t (cell_at s c) (rank_of lo) (rank_of hi) (contents c) ra is ((are.words) c low) address ((says.cells) c low) inside in
-    (
+    let has = within_has t (cell_at s c) (rank_of lo) (rank_of hi) (contents c) ra is ((are.words) c low) address ((says.cells) c low) inside in (
       part_size c s (within t (cell_at s c) (rank_of lo) (rank_of hi)) size,
       part_says c s ra contents f (within t (cell_at s c) (rank_of lo) (rank_of hi)) size has says,
     )

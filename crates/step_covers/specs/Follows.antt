@@ -1,13 +1,12 @@
 -- What a step of the analysis stands for: what cells hold and what the condition codes are behind it, where they were
 -- others before it.
-use Rattle.std.specs.Prelude.{◌==◌, ◌≡◌, ℕ, ℤ, ◌+◌, ◌%◌, ◌^◌, ◌<◌, Bool, true, false, List, Option, Some, None}
+use Rattle.std.specs.Prelude.{◌≡◌, ℕ, ◌%◌, ◌^◌, ◌<◌, Bool, false, List, Option, Some, None}
 use Rattle.abs_state.specs.declared.flags.Flags.{Flags as Known}
 use Rattle.abs_state.specs.declared.flags.Right.{Right}
 use Rattle.abs_state.specs.declared.flags.Right.TheVariants.{Cell, Word}
 use Rattle.bt_image.specs.Image.{word}
 use Rattle.cell_places.specs.Place.{window_at, content_of, with_content}
 use Rattle.sparc_machine.specs.Effect.{flags_in}
-use Rattle.sparc_machine.specs.Frame.{Frame}
 use Rattle.sparc_machine.specs.declared.machine.Machine.{Machine}
 use Rattle.state_covers.specs.Covers.{FlagsMean}
 use Rattle.transfer_rules.specs.declared.step.Source.{Source}

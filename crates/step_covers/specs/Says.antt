@@ -1,5 +1,5 @@
 -- What the functions of the analysis leave of a state that is right: a state that is right, and never nothing.
-use Rattle.std.specs.Prelude.{◌≡◌, ℕ, ℤ, ◌^◌, ◌<◌, ◌≤◌, Bool, true, List, Option, Some, None, Contains}
+use Rattle.std.specs.Prelude.{◌≡◌, ℕ, ℤ, ◌^◌, ◌<◌, ◌≤◌, true, List, Option, Some, None}
 use Rattle.abs_state.specs.State.{State, is_state_over}
 use Rattle.abs_state.specs.declared.key.Place.{Place}
 use Rattle.assert_bind.specs.Binding.{range}

@@ -1,7 +1,8 @@
-//! One step of the machine is covered: whatever it does, the functions of the analysis leave a state that is right about it.
+//! One step of the machine is covered: it does what the act of its place says, and whatever follows by an act, the functions
+//! of the analysis leave a state that is right about it.
 //! Each law is the contract of a function that does nothing.
 #![tactic(auto)]
 
 mod laws;
 
-pub use laws::{narrowed_states_say, stepped_states_say, tested_states_say};
+pub use laws::{narrowed_states_say, stepped_states_say, steps_do_acts, tested_states_say};
