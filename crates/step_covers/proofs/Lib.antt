@@ -7,3 +7,4 @@ pub mod MirrorLemmas
 pub mod ReadLemmas
 pub mod SourceLemmas
 pub mod StateLemmas
+pub mod WriteLemmas

@@ -1,3 +1,4 @@
+pub mod Covered
 pub mod Does
 pub mod Follows
 pub mod Says
