@@ -1,5 +1,6 @@
 pub mod ActLemmas
 pub mod CodeLemmas
+pub mod CoveredLemmas
 pub mod DoLemmas
 pub mod FollowLemmas
 pub mod LeadLemmas

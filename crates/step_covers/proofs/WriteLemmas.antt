@@ -1,29 +1,27 @@
 -- Which places of the registers a step writes.
-use Rattle.std.proofs.Common.{◌≡◌, ◌≢◌, ℕ, suc, ◌+◌, ◌%◌, ◌<◌, ◌⊎◌, inl, inr, Bool, true, false, List, [], ◌∷◌, Option, Some, None, Contains, refl, sym, ap, subst, ◌∙◌, arith, eq-eqb}
-use Rattle.std.specs.Prelude.{◌==◌, slice_index, if◌then◌else◌}
+use Rattle.std.proofs.Common.{◌≡◌, ◌≢◌, ℕ, suc, ◌+◌, ◌%◌, ◌<◌, ◌⊎◌, inl, inr, Bool, true, false, List, [], ◌∷◌, Contains, refl, sym, ap, subst, ◌∙◌, arith, eq-eqb}
+use Rattle.std.specs.Prelude.{◌==◌, if◌then◌else◌}
 use Rattle.std.proofs.lemmas.Bool.{false≢true}
 use Rattle.std.proofs.lemmas.Bool.Decides.{eqb_tells}
 use Rattle.value_lattice.proofs.LeastLemmas.{head_or_tail}
 use Rattle.sparc_decode.proofs.FieldRanges.{all_in_range}
-use Rattle.sparc_decode.specs.Instr.{InRange, IsOperand, instruction_of}
+use Rattle.sparc_decode.specs.Instr.{InRange}
 use Rattle.sparc_decode.specs.Register.{registers_written}
 use Rattle.sparc_decode.specs.declared.instruction.Instr.{Instr}
 use Rattle.sparc_decode.specs.declared.instruction.Instr.TheVariants.{Call, Unimp, Sethi, Branch, FloatBranch, Alu, Tagged, MulStep, Shift, ReadY, WriteY, FloatOp, FloatCmp, Jmpl, Flush, Save, Restore, Ticc, Load, Store, Atomic, FloatMem, Unmodelled as UnmodelledWord, Unknown, Multiply, Divide}
 use Rattle.sparc_decode.specs.declared.instruction.LoadKind.{LoadKind}
 use Rattle.sparc_decode.specs.declared.instruction.LoadKind.TheVariants.{Ld, Ldub, Lduh, Ldd, Ldsb, Ldsh}
 use Rattle.sparc_decode.specs.declared.instruction.Second.{Second}
-use Rattle.sparc_machine.specs.Effect.{Effect, Done, Trapped, effect_of, address_in, load_effect, read_into, is_odd_double_load}
-use Rattle.sparc_machine.specs.Frame.{StepsTo}
+use Rattle.sparc_machine.specs.Effect.{Done, Trapped, effect_of, address_in, load_effect, read_into}
 use Rattle.sparc_machine.specs.Memory.{load_size}
 use Rattle.sparc_machine.specs.Reads.{AreElsewhere, IsElsewhere}
 use Rattle.sparc_machine.specs.Register.{physical_of}
-use Rattle.sparc_machine.specs.Straight.{code_instruction}
 use Rattle.sparc_machine.specs.declared.free.Free.{Free}
 use Rattle.sparc_machine.specs.declared.machine.Machine.{Machine}
 use Rattle.sparc_machine.specs.declared.trap.Trap.TheVariants.{Misaligned, Unmodelled}
 use Rattle.sparc_runs.proofs.StepLaws.{writes_only}
 use Rattle.sparc_runs.proofs.Stepping.{parts, same_instruction}
-use Rattle.step_covers.specs.Covered.{IsPlaceWritten, PlacesAreWritten}
+use Rattle.step_covers.specs.Covered.{PlacesAreWritten}
 
 -- registers that are written are below 32, where a step is taken
 near_none : (r : ℕ) → Contains [] r → r < 32

@@ -1,5 +1,5 @@
 -- What a state that covers a machine covers behind a step, and what a run that meets the assertions shows of cells.
-use Rattle.std.specs.Prelude.{◌≡◌, ◌≢◌, ℕ, ◌+◌, ◌%◌, ◌^◌, ◌<◌, ◌⊎◌, Bool, true, false, not, List, Option, Some, None, Contains, IfSome, slice_index}
+use Rattle.std.specs.Prelude.{◌≡◌, ◌≢◌, ℕ, ◌^◌, ◌<◌, ◌⊎◌, Bool, true, false, List, Option, Some, None, Contains, IfSome, slice_index}
 use Rattle.abs_state.specs.State.{State, is_state_over, without}
 use Rattle.abs_state.specs.declared.key.Place.{Place}
 use Rattle.assert_bind.specs.Binding.{listed, never}
@@ -8,8 +8,7 @@ use Rattle.assert_bind.specs.Sight.{MeetsEach}
 use Rattle.assert_bind.specs.declared.body.BoundAssertion.{BoundAssertion}
 use Rattle.bt_image.specs.Image.{is_code}
 use Rattle.call_effects.specs.Mask.{has_cell}
-use Rattle.cell_places.specs.Place.{content_of, window_at}
-use Rattle.jump_resolve.specs.declared.resolved.Resolved.{Resolved}
+use Rattle.cell_places.specs.Place.{content_of}
 use Rattle.sparc_decode.specs.Register.{registers_written}
 use Rattle.sparc_decode.specs.declared.instruction.Instr.{Instr}
 use Rattle.sparc_machine.specs.Effect.{flags_in}
