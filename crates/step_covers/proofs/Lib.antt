@@ -8,4 +8,5 @@ pub mod MirrorLemmas
 pub mod ReadLemmas
 pub mod SourceLemmas
 pub mod StateLemmas
+pub mod WorkedLemmas
 pub mod WriteLemmas

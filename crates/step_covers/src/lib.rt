@@ -4,9 +4,11 @@
 
 mod covering;
 mod laws;
+mod worked_run;
 
 pub use covering::{
     aims_are_resolved, entered_states_cover, met_assertions_are_kept, narrowed_states_cover,
     places_are_written, returned_states_cover, stepped_states_cover, tested_states_cover,
 };
 pub use laws::{narrowed_states_say, stepped_states_say, steps_do_acts, tested_states_say};
+pub use worked_run::worked_run_is_covered;
