@@ -1,0 +1,5 @@
+use Rattle.state_covers.proofs.CoverLemmas.{greater_states_cover}
+use Rattle.state_covers.proofs.laws.greater_states_cover.Goals as goal
+
+pub returns : goal.returns
+returns c = greater_states_cover
