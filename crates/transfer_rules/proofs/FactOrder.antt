@@ -1,11 +1,11 @@
 -- The order, the join and the ranks of facts.
-use Rattle.std.proofs.Common.{◌≡◌, ℕ, ◌+◌, ◌*◌, ◌^◌, ◌<◌, ◌≤◌, ◌⊎◌, inl, inr, ◌&&◌, Bool, true, false, List, length, refl, sym, ap, subst, ◌∙◌, arith}
-use Rattle.std.specs.Prelude.{◌==◌, if◌then◌else◌}
+use Rattle.std.proofs.Common.{◌≡◌, ℕ, ◌+◌, ◌*◌, ◌<◌, ◌≤◌, ◌⊎◌, inl, inr, Bool, true, false, List, length, refl, sym, ap, subst, ◌∙◌, arith}
+use Rattle.std.specs.Prelude.{◌==◌}
 use Rattle.std.specs.List.{list_all}
-use Rattle.std.proofs.lemmas.Bool.{and_from, and_parts, both_ways, cases_Bool, cases_eq, eq-eqb, eqb-true, false≢true}
+use Rattle.std.proofs.lemmas.Bool.{and_from, and_parts, both_ways, cases_eq, eq-eqb, eqb-true, false≢true}
 use Rattle.call_effects.specs.declared.summary.Summary.{Summary}
-use Rattle.call_effects.specs.Mask.{IsMask, is_mask, is_within, union}
-use Rattle.call_effects.specs.Summary.{is_at_most as are_effects_at_most, joined as joined_effects}
+use Rattle.call_effects.specs.Mask.{is_within, union}
+use Rattle.call_effects.specs.Summary.{is_at_most as are_effects_at_most}
 use Rattle.call_effects.proofs.MaskLemmas.{mask-union, test_decides_masks, within_rises}
 use Rattle.call_effects.proofs.SummaryLemmas.{implies, summaries_are_joined, summaries_are_ordered, up_parts}
 use Rattle.value_lattice.proofs.RankLemmas.{heights_bound, heights_rise, lists_are_same}

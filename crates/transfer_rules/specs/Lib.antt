@@ -2,3 +2,5 @@ pub mod Fact
 pub mod Family
 pub mod Give
 pub mod Lawful
+pub mod Given
+pub mod Closed

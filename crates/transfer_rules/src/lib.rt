@@ -4,8 +4,16 @@
 
 mod act;
 mod fact;
+mod laws;
 mod step;
 
 pub use act::{Act, Aim, Candidates, Exit, Test, Way};
 pub use fact::Fact;
+pub use laws::{
+    arguments_are_no_return_address, branches_lead_to_exits, calls_enter_delays,
+    calls_keep_the_rest, closed_calls, closed_has_gaps, closed_has_three, closed_leads_on,
+    closed_says, closed_starts, gaps_are_ends, more_thresholds_are_finer, only_places_give,
+    places_have_edges, places_speak_of_theirs, rules_are_lawful, stubs_keep_locals,
+    writes_are_said,
+};
 pub use step::{Source, Step, Write};

@@ -5,3 +5,6 @@ pub mod TestLemmas
 pub mod NarrowLemmas
 pub mod ResolveLemmas
 pub mod LawLemmas
+pub mod CoverLemmas
+pub mod CandidateLemmas
+pub mod CodeLemmas

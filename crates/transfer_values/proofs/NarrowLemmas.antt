@@ -1,6 +1,6 @@
 -- What assertions leave of a state: it may stand where the state may, and of less, and over more thresholds, it is at most
 -- what it was.
-use Rattle.std.proofs.Common.{◌≡◌, ℕ, Bool, true, false, List, [], ◌∷◌, Option, Some, None, refl}
+use Rattle.std.proofs.Common.{◌≡◌, ℕ, true, List, [], ◌∷◌, Option, Some, None}
 use Rattle.std.specs.Prelude.{ℤ}
 use Rattle.std.specs.List.{range_with_len}
 use Rattle.assert_bind.specs.Binding.{range}
@@ -15,7 +15,7 @@ use Rattle.abs_state.specs.State.{State, cell_at, is_state_over, is_at_most}
 use Rattle.abs_state.specs.declared.key.Place.{Place}
 use Rattle.transfer_rules.specs.Lawful.{is_over_or_none as is_left_over, is_less}
 use Rattle.transfer_values.specs.Narrow.{narrowed_to, narrowed_by, narrowed}
-use Rattle.transfer_values.proofs.PartLemmas.{cell_up, left_over, left_falls, then_over, then_falls, some_over}
+use Rattle.transfer_values.proofs.PartLemmas.{cell_up, left_over, left_falls, then_over, then_falls}
 
 to_over : (t : List ℕ) (o : Option (ℤ × ℤ)) (c : ℕ) (s : State) → IsThresholds t → is_state_over t s ≡ true → is_left_over t (narrowed_to t o c s) ≡ true
 to_over t None c s is fits = fits

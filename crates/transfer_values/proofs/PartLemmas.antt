@@ -1,10 +1,9 @@
 -- States of which a cell has less: they stay states, and keep their order.
-use Rattle.std.proofs.Common.{◌≡◌, ◌≢◌, ℕ, ◌<◌, ◌&&◌, ◌⊎◌, inl, inr, Bool, true, false, List, length, get_or, Option, Some, None, refl, sym, ap, subst, ◌∙◌, arith, eq-eqb}
+use Rattle.std.proofs.Common.{◌≡◌, ◌≢◌, ℕ, ◌<◌, ◌⊎◌, inl, inr, Bool, true, false, List, length, Option, Some, None, refl, sym, ap, subst, ◌∙◌, arith, eq-eqb}
 use Rattle.std.specs.Prelude.{◌==◌, nat_lt, not, if◌then◌else◌, slice_set}
-use Rattle.std.specs.List.{All, list_all}
 use Rattle.std.specs.Option.{option_and_then}
 use Rattle.std.proofs.lemmas.Bool.{and_parts, and_from, cases_eq, cases_lt, ltb-true, true≢false}
-use Rattle.std.proofs.lemmas.List.{get_or-set_same, get_or-set_other, length-set, set-get_or, get_or_past, get_or_default}
+use Rattle.std.proofs.lemmas.List.{get_or-set_same, get_or-set_other, length-set, set-get_or, get_or_past}
 use Rattle.value_lattice.proofs.TestLemmas.{over_decides, is_over-value, the_order_is_one}
 use Rattle.value_lattice.specs.Height.{are_at_most}
 use Rattle.value_lattice.specs.Least.{top}
@@ -12,9 +11,8 @@ use Rattle.value_lattice.specs.Test.{is_over, is_over_or_none, is_less as is_val
 use Rattle.value_lattice.specs.Thresholds.{IsThresholds}
 use Rattle.value_lattice.specs.Value.{IsOver, is_ret, is_some_ret, is_zero}
 use Rattle.value_lattice.specs.declared.value.Value.{Value}
-use Rattle.abs_state.proofs.CellsLemmas.{over_all, set_up, cells_at, cells_length, cells_same}
-use Rattle.abs_state.proofs.FlagsLemmas.{up_same}
-use Rattle.abs_state.proofs.OrderLemmas.{Stands, stands, from_stands, states_are_ordered}
+use Rattle.abs_state.proofs.CellsLemmas.{over_all, cells_at, cells_length}
+use Rattle.abs_state.proofs.OrderLemmas.{stands, from_stands}
 use Rattle.abs_state.proofs.WriteLemmas.{value_all, any_over, writes_keep_order}
 use Rattle.abs_state.specs.Flags.{flags_at_most}
 use Rattle.abs_state.specs.State.{State, cell_in, cell_at, is_state_over, is_at_most, with_value, with_cell, may_name, may_name_right, may_speak}

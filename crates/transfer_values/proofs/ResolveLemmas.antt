@@ -1,16 +1,15 @@
 -- Targets: a lesser state goes to fewer, is known sooner to go nowhere else, and none has more than the widest.
-use Rattle.std.proofs.Common.{◌≡◌, ℕ, ◌+◌, ◌^◌, ◌<◌, ◌≤◌, ◌&&◌, Bool, true, false, eqb, List, [], ◌∷◌, ◌++◌, length, Option, Some, None, Contains, refl, sym, ap, subst, ◌∙◌, arith, length-append}
+use Rattle.std.proofs.Common.{◌≡◌, ℕ, ◌+◌, ◌^◌, ◌<◌, ◌≤◌, ◌&&◌, Bool, true, false, eqb, List, [], ◌∷◌, length, Option, Some, None, Contains, refl, sym, ap, ◌∙◌, arith, length-append}
 use Rattle.std.specs.Prelude.{if◌then◌else◌}
-use Rattle.std.specs.List.{All, find, flat_map}
+use Rattle.std.specs.List.{find}
 use Rattle.std.specs.Option.{option_and_then}
 use Rattle.std.specs.Set.{is_member}
-use Rattle.std.proofs.lemmas.Bool.{and_parts, true≢false}
+use Rattle.std.proofs.lemmas.Bool.{and_parts}
 use Rattle.std.proofs.lemmas.List.Elements.{All-contains}
 use Rattle.bt_image.specs.Section.{is_loaded}
 use Rattle.bt_image.specs.Symbol.{functions}
-use Rattle.assert_bind.specs.Binding.{about, speaks_of, listed, targets_in}
+use Rattle.assert_bind.specs.Binding.{speaks_of, listed, targets_in}
 use Rattle.assert_bind.specs.declared.body.BoundAssertion.{BoundAssertion}
-use Rattle.assert_bind.specs.declared.subject.Subject.{Subject}
 use Rattle.assert_bind.specs.declared.subject.Subject.TheVariants.{Targets}
 use Rattle.jump_resolve.proofs.TargetLemmas.{targets_rise, targets_are_few}
 use Rattle.value_lattice.proofs.SetLemmas.{length_rising_in}
@@ -30,6 +29,7 @@ use Rattle.transfer_rules.specs.declared.act.Aim.{Aim}
 use Rattle.transfer_rules.specs.declared.act.Aim.TheVariants.{Fixed, Computed}
 use Rattle.transfer_rules.specs.declared.act.Candidates.{Candidates}
 use Rattle.transfer_rules.specs.declared.act.Candidates.TheVariants.{Functions, Labels}
+use Rattle.jump_resolve.specs.Target.{targets}
 use Rattle.transfer_values.specs.Law.{TargetsFall}
 use Rattle.transfer_values.specs.Resolve.{stands_in_word, taken_functions, is_label, is_near, labels, labels_near, candidates, targets_among, resolved, to_of, all_listed, widest}
 use Rattle.transfer_values.specs.Source.{operand}
@@ -55,16 +55,22 @@ among_whole image v u (Some to) others up whole = refl
 among_whole image v u None others up whole = targets_rise.whole image v u others false up whole
 
 -- how many there are
+listed_first : (x : BoundAssertion) (rest : List BoundAssertion) (b : Bool) (to : List ℕ) (o : Option BoundAssertion)
+    → (option_and_then (λ assertion. targets_in assertion.body) o ≡ Some to → length to ≤ length (all_listed rest))
+    → option_and_then (λ assertion. targets_in assertion.body) (if b then Some x else o) ≡ Some to → length to ≤ length (all_listed (x ∷ rest))
+listed_first x rest true to o later here =
+    let both : length (all_listed (x ∷ rest)) ≡ length (to_of (targets_in x.body)) + length (all_listed rest) = length-append (to_of (targets_in x.body)) (all_listed rest) in
+    let same : length (to_of (targets_in x.body)) ≡ length to = ap (λ (o : Option (List ℕ)). length (to_of o)) here in
+    omega arith
+listed_first x rest false to o later there =
+    let both : length (all_listed (x ∷ rest)) ≡ length (to_of (targets_in x.body)) + length (all_listed rest) = length-append (to_of (targets_in x.body)) (all_listed rest) in
+    let h : length to ≤ length (all_listed rest) = later there in
+    omega arith
+
 listed_there : (list : List BoundAssertion) (p : BoundAssertion → Bool) (to : List ℕ) → option_and_then (λ assertion. targets_in assertion.body) (find p list) ≡ Some to
     → length to ≤ length (all_listed list)
 listed_there [] p to is = cc
-listed_there (x ∷ rest) p to is = by_test (p x) is where
-  both : length (all_listed (x ∷ rest)) ≡ length (to_of (targets_in x.body)) + length (all_listed rest)
-  both = length-append (to_of (targets_in x.body)) (all_listed rest)
-
-  by_test : (b : Bool) → option_and_then (λ assertion. targets_in assertion.body) (if b then Some x else find p rest) ≡ Some to → length to ≤ length (all_listed (x ∷ rest))
-  by_test true here = let same : length (to_of (targets_in x.body)) ≡ length to = ap (λ (o : Option (List ℕ)). length (to_of o)) here in omega (arith, both)
-  by_test false later = let h = listed_there rest p to later in omega (arith, both, h)
+listed_there (x ∷ rest) p to is = listed_first x rest (p x) to (find p rest) (λ later. listed_there rest p to later) is
 
 taken_few : (image : List ℕ) → length (taken_functions image) ≤ length (functions image)
 unfolding taken_functions
@@ -101,28 +107,54 @@ among_few image v list pc kind None is =
     let few = targets_are_few image v (candidates image pc kind) false in
     omega (arith, few, candidates_few image pc kind)
 
+resolved_fewer : (t more image : List ℕ) (list : List BoundAssertion) (pc : ℕ) (aim : Aim) (a b : State) → IsThresholds t → IsThresholds more → AreMore t more
+    → is_state_over more a ≡ true → is_state_over t b ≡ true → is_state_at_most a b ≡ true
+    → (x : ℕ) → Contains (resolved more image list pc aim a).list x → Contains (resolved t image list pc aim b).list x
+unfolding resolved
+resolved_fewer t more image list pc (Fixed to) a b is is_more in_more lesser greater up x there = there
+resolved_fewer t more image list pc (Computed left right kind) a b is is_more in_more lesser greater up x there =
+    among_list image (apply more Add (operand a left) (operand a right)) (apply t Add (operand b left) (operand b right)) (listed list pc) (candidates image pc kind) x
+    (sum_up t more a b left right is is_more in_more lesser greater up) there
+
+resolved_whole : (t more image : List ℕ) (list : List BoundAssertion) (pc : ℕ) (aim : Aim) (a b : State) → IsThresholds t → IsThresholds more → AreMore t more
+    → is_state_over more a ≡ true → is_state_over t b ≡ true → is_state_at_most a b ≡ true
+    → (resolved t image list pc aim b).whole ≡ true → (resolved more image list pc aim a).whole ≡ true
+unfolding resolved
+resolved_whole t more image list pc (Fixed to) a b is is_more in_more lesser greater up known = refl
+resolved_whole t more image list pc (Computed left right kind) a b is is_more in_more lesser greater up known =
+    among_whole image (apply more Add (operand a left) (operand a right)) (apply t Add (operand b left) (operand b right)) (listed list pc) (candidates image pc kind)
+    (sum_up t more a b left right is is_more in_more lesser greater up) known
+
+resolved_few : (t image : List ℕ) (list : List BoundAssertion) (pc : ℕ) (aim : Aim) (s : State) → length (resolved t image list pc aim s).list ≤ widest image list
+unfolding resolved widest
+resolved_few t image list pc (Fixed to) s = omega arith
+resolved_few t image list pc (Computed left right kind) s =
+    among_few image (apply t Add (operand s left) (operand s right)) list pc kind (listed list pc) refl
+
 pub targets_fall : TargetsFall
-targets_fall = record { list = fewer; whole = whole; few = few } where
-  fewer : (t more image : List ℕ) (list : List BoundAssertion) (pc : ℕ) (aim : Aim) (a b : State) → IsThresholds t → IsThresholds more → AreMore t more
-      → is_state_over more a ≡ true → is_state_over t b ≡ true → is_state_at_most a b ≡ true
-      → (x : ℕ) → Contains (resolved more image list pc aim a).list x → Contains (resolved t image list pc aim b).list x
-  unfolding resolved
-  fewer t more image list pc (Fixed to) a b is is_more in_more lesser greater up x there = there
-  fewer t more image list pc (Computed left right kind) a b is is_more in_more lesser greater up x there =
-      among_list image (apply more Add (operand a left) (operand a right)) (apply t Add (operand b left) (operand b right)) (listed list pc) (candidates image pc kind) x
-      (sum_up t more a b left right is is_more in_more lesser greater up) there
+targets_fall = record { list = resolved_fewer; whole = resolved_whole; few = resolved_few }
 
-  whole : (t more image : List ℕ) (list : List BoundAssertion) (pc : ℕ) (aim : Aim) (a b : State) → IsThresholds t → IsThresholds more → AreMore t more
-      → is_state_over more a ≡ true → is_state_over t b ≡ true → is_state_at_most a b ≡ true
-      → (resolved t image list pc aim b).whole ≡ true → (resolved more image list pc aim a).whole ≡ true
-  unfolding resolved
-  whole t more image list pc (Fixed to) a b is is_more in_more lesser greater up known = refl
-  whole t more image list pc (Computed left right kind) a b is is_more in_more lesser greater up known =
-      among_whole image (apply more Add (operand a left) (operand a right)) (apply t Add (operand b left) (operand b right)) (listed list pc) (candidates image pc kind)
-      (sum_up t more a b left right is is_more in_more lesser greater up) known
+-- what the code resolves
+pub resolved_listed : (t image : List ℕ) (list : List BoundAssertion) (pc : ℕ) (aim : Aim) (left right : Right) (kind : Candidates) (s : State) (v : Value) (to : List ℕ)
+    → aim ≡ Computed left right kind → v ≡ apply t Add (operand s left) (operand s right) → Some to ≡ listed list pc
+    → targets image v to true ≡ resolved t image list pc aim s
+unfolding resolved
+resolved_listed t image list pc aim left right kind s v to is value there =
+    ap (λ (u : Value). targets image u to true) value
+    ∙ ap (λ (o : Option (List ℕ)). targets_among image (apply t Add (operand s left) (operand s right)) o (candidates image pc kind)) there
+    ∙ ap (λ (x : Aim). resolved t image list pc x s) (sym is)
 
-  few : (t image : List ℕ) (list : List BoundAssertion) (pc : ℕ) (aim : Aim) (s : State) → length (resolved t image list pc aim s).list ≤ widest image list
-  unfolding resolved widest
-  few t image list pc (Fixed to) s = omega arith
-  few t image list pc (Computed left right kind) s =
-      among_few image (apply t Add (operand s left) (operand s right)) list pc kind (listed list pc) refl
+pub resolved_others : (t image : List ℕ) (list : List BoundAssertion) (pc : ℕ) (aim : Aim) (left right : Right) (kind : Candidates) (s : State) (v : Value) (others : List ℕ)
+    → aim ≡ Computed left right kind → v ≡ apply t Add (operand s left) (operand s right) → None ≡ listed list pc → others ≡ candidates image pc kind
+    → targets image v others false ≡ resolved t image list pc aim s
+unfolding resolved
+resolved_others t image list pc aim left right kind s v others is value none are =
+    ap (λ (u : Value). targets image u others false) value
+    ∙ ap (λ (xs : List ℕ). targets image (apply t Add (operand s left) (operand s right)) xs false) are
+    ∙ ap (λ (o : Option (List ℕ)). targets_among image (apply t Add (operand s left) (operand s right)) o (candidates image pc kind)) none
+    ∙ ap (λ (x : Aim). resolved t image list pc x s) (sym is)
+
+pub resolved_fixed : (t image : List ℕ) (list : List BoundAssertion) (pc a : ℕ) (aim : Aim) (s : State) → aim ≡ Fixed a
+    → record { list = a ∷ []; whole = true } ≡ resolved t image list pc aim s
+unfolding resolved
+resolved_fixed t image list pc a aim s is = ap (λ (x : Aim). resolved t image list pc x s) (sym is)

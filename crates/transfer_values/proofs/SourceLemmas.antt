@@ -1,31 +1,28 @@
 -- What a step writes: it is over the thresholds, and of less, and over more thresholds, at most what it was.
-use Rattle.std.proofs.Common.{◌≡◌, ℕ, suc, ◌%◌, ◌^◌, ◌<◌, ◌≤◌, ◌&&◌, ◌⊎◌, inl, inr, Bool, true, false, eqb, List, [], ◌∷◌, length, get_or, Option, Some, None, Contains, refl, sym, ap, subst, ◌∙◌, arith, eq-eqb, ⊎_elim}
-use Rattle.std.specs.Prelude.{◌==◌, ℤ, filter, int_le, if◌then◌else◌}
-use Rattle.std.specs.List.{All, list_all}
+use Rattle.std.proofs.Common.{◌≡◌, ℕ, suc, ◌^◌, ◌<◌, ◌&&◌, inl, inr, Bool, true, false, eqb, List, [], ◌∷◌, length, get_or, Option, Some, None, Contains, refl, sym, ap, subst, ◌∙◌, arith, ⊎_elim}
+use Rattle.std.specs.Prelude.{filter, int_le, if◌then◌else◌}
 use Rattle.std.specs.Option.{option_map, option_and_then}
 use Rattle.std.specs.Set.{is_member}
-use Rattle.std.proofs.lemmas.Bool.{and_parts, cases_Bool, true≢false}
+use Rattle.std.proofs.lemmas.Bool.{and_parts, true≢false}
 use Rattle.std.proofs.lemmas.List.Elements.{All-contains, Contains-get_or}
 use Rattle.bt_image.specs.Image.{word}
 use Rattle.jump_resolve.proofs.TargetLemmas.{kept_by, kept_from, kept_passes}
-use Rattle.value_lattice.proofs.FunctionLemmas.{cover_is_least, cover_falls, span_is_least, least_of_falls}
+use Rattle.value_lattice.proofs.FunctionLemmas.{cover_falls, least_of_falls}
 use Rattle.value_lattice.proofs.LeastLemmas.{head_or_tail, least_exists}
 use Rattle.value_lattice.proofs.MayLemmas.{one_set, least_has_some}
 use Rattle.value_lattice.proofs.TestLemmas.{over_decides, ordered}
-use Rattle.value_lattice.proofs.ValueLemmas.{no_range_in_set}
 use Rattle.value_lattice.specs.Laws.{AreMore}
 use Rattle.value_lattice.specs.Least.{top, or_top, least_of, cover, span}
 use Rattle.value_lattice.specs.Order.{rank_of}
 use Rattle.value_lattice.specs.Test.{is_over, is_over_or_none, is_at_most, is_less, is_value, is_inside, is_placed, AreOrdered}
 use Rattle.value_lattice.specs.Thresholds.{IsThresholds}
-use Rattle.value_lattice.specs.Value.{IsOver, IsLeast, IsLeastOrNone}
+use Rattle.value_lattice.specs.Value.{IsLeastOrNone}
 use Rattle.value_lattice.specs.declared.value.Value.{Value}
 use Rattle.value_lattice.specs.declared.value.Value.TheVariants.{Words, Range, Ret}
 use Rattle.value_ops.proofs.ApplyLemmas.{apply_over, apply_falls}
 use Rattle.value_ops.specs.Operation.{apply}
 use Rattle.value_ops.specs.declared.op.Op.TheVariants.{Add}
-use Rattle.abs_state.proofs.WriteLemmas.{any_over}
-use Rattle.abs_state.specs.State.{State, cell_at, is_state_over, is_at_most as is_state_at_most}
+use Rattle.abs_state.specs.State.{State, is_state_over, is_at_most as is_state_at_most}
 use Rattle.abs_state.specs.declared.flags.Right.{Right}
 use Rattle.abs_state.specs.declared.flags.Right.TheVariants.{Cell, Word}
 use Rattle.transfer_rules.specs.declared.step.Source.{Source}
@@ -92,21 +89,23 @@ later y ys a there = (suc there.0, omega (arith, there.1), there.2)
 first : (y : ℕ) (ys : List ℕ) → Contains (y ∷ ys) y
 first y ys = (0, omega arith, refl)
 
+read_by : (image rest words : List ℕ) (b a : ℕ) (o : Option ℕ) (p : Option (List ℕ)) → word image b ≡ o → ((ws : List ℕ) → p ≡ Some ws → Contains rest a → IsRead image ws a)
+    → option_and_then (λ w. option_map (λ ws. word_of w ∷ ws) p) o ≡ Some words → Contains (b ∷ rest) a → IsRead image words a
+read_by image rest words b a None p here more is there = cc
+read_by image rest words b a (Some w) None here more is there = cc
+read_by image rest words b a (Some w) (Some ws) here more is there =
+    let same : word_of w ∷ ws ≡ words = cc in
+    elim (head_or_tail b rest a there) [
+      | inl now ↦ (record { read = w; stands = ap (word image) now ∙ here; there = subst (λ (xs : List ℕ). Contains xs (word_of w)) same (first (word_of w) ws) })
+      | inr after ↦
+          (let r : IsRead image ws a = more ws refl after in
+          record { read = r.read; stands = r.stands; there = subst (λ (xs : List ℕ). Contains xs (word_of r.read)) same (later (word_of w) ws (word_of r.read) r.there) })
+    ]
+
 pub are_read : (image addresses words : List ℕ) → words_at image addresses ≡ Some words → (a : ℕ) → Contains addresses a → IsRead image words a
 are_read image [] words are a there = absurd (omega (arith, there.1))
-are_read image (b ∷ rest) words are a there = by_word (word image b) refl (words_at image rest) refl are where
-  by_word : (o : Option ℕ) → word image b ≡ o → (p : Option (List ℕ)) → words_at image rest ≡ p
-      → option_and_then (λ w. option_map (λ ws. word_of w ∷ ws) p) o ≡ Some words → IsRead image words a
-  by_word None here p more is = cc
-  by_word (Some w) here None more is = cc
-  by_word (Some w) here (Some ws) more is =
-      let same : word_of w ∷ ws ≡ words = cc in
-      elim (head_or_tail b rest a there) [
-        | inl now ↦ (record { read = w; stands = ap (word image) now ∙ here; there = subst (λ (xs : List ℕ). Contains xs (word_of w)) same (first (word_of w) ws) })
-        | inr after ↦
-            (let r : IsRead image ws a = are_read image rest ws more a after in
-            record { read = r.read; stands = r.stands; there = subst (λ (xs : List ℕ). Contains xs (word_of r.read)) same (later (word_of w) ws (word_of r.read) r.there) })
-      ]
+are_read image (b ∷ rest) words are a there =
+    read_by image rest words b a (word image b) (words_at image rest) refl (λ ws more also. are_read image rest ws more a also) are there
 
 -- what is read of addresses whose words are among some
 pub record AreReadIn (image addresses words : List ℕ) : Type 0 where

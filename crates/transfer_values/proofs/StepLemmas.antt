@@ -1,6 +1,6 @@
 -- The state behind a step: it may stand where the state before may, and of less, and over more thresholds, it is at most
 -- what it was.
-use Rattle.std.proofs.Common.{◌≡◌, ℕ, ◌^◌, ◌<◌, ◌&&◌, ◌⊎◌, inl, inr, Bool, true, false, List, length, Option, Some, None, refl, sym, ap, subst, ◌∙◌, arith, ⊎_elim}
+use Rattle.std.proofs.Common.{◌≡◌, ℕ, ◌^◌, ◌<◌, ◌&&◌, Bool, true, false, List, length, Option, Some, None, refl, sym, ap, subst, ◌∙◌, arith, ⊎_elim}
 use Rattle.std.specs.Prelude.{◌==◌, nat_lt, not, if◌then◌else◌, slice_set}
 use Rattle.std.specs.Option.{option_map, option_and_then}
 use Rattle.std.proofs.lemmas.Bool.{and_parts, and_from, eqb-true, lt-ltb, ltb-true, true≢false}
@@ -10,7 +10,7 @@ use Rattle.value_lattice.proofs.TestLemmas.{value_decides}
 use Rattle.value_lattice.specs.Height.{are_at_most}
 use Rattle.value_lattice.specs.Laws.{AreMore}
 use Rattle.value_lattice.specs.Least.{top}
-use Rattle.value_lattice.specs.Test.{is_value, is_inside, is_over, is_over_or_none, is_less as is_value_less, is_at_most as is_value_at_most}
+use Rattle.value_lattice.specs.Test.{is_value, is_inside, is_over_or_none, is_less as is_value_less, is_at_most as is_value_at_most}
 use Rattle.value_lattice.specs.Thresholds.{IsThresholds}
 use Rattle.value_lattice.specs.Value.{is_ret, is_zero}
 use Rattle.value_lattice.specs.declared.value.Value.{Value}

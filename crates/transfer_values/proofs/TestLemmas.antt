@@ -1,8 +1,7 @@
 -- What a branch's direction leaves of a state: it may stand where the state may, and of less, and over more thresholds, it
 -- is at most what it was, also where less is known of the condition codes.
-use Rattle.std.proofs.Common.{◌≡◌, ℕ, ◌%◌, ◌&&◌, ◌||◌, ◌⊎◌, inl, inr, Bool, true, false, List, [], ◌∷◌, Option, Some, None, refl, sym, ap, subst, ◌∙◌}
+use Rattle.std.proofs.Common.{◌≡◌, ℕ, ◌%◌, ◌||◌, inl, inr, Bool, true, false, List, [], ◌∷◌, Option, Some, None, refl, sym, ap, subst}
 use Rattle.std.specs.Prelude.{◌==◌, nat_lt, not, if◌then◌else◌}
-use Rattle.std.specs.Option.{option_and_then}
 use Rattle.std.proofs.lemmas.Bool.{and_parts, true≢false}
 use Rattle.value_lattice.proofs.TestLemmas.{the_order_is_one}
 use Rattle.value_lattice.specs.Height.{are_at_most}
@@ -31,11 +30,11 @@ use Rattle.transfer_values.proofs.PartLemmas.{same_value, cell_over, cell_up, le
 use Rattle.transfer_values.proofs.SourceLemmas.{word_over, operand_over, operand_up}
 
 -- a cell that flags speak of isn't the return address
-words_named : (cells : List Value) (k : ℕ) → may_name cells k ≡ true → is_ret (cell_in cells k) ≡ false
+pub words_named : (cells : List Value) (k : ℕ) → may_name cells k ≡ true → is_ret (cell_in cells k) ≡ false
 words_named cells k may = by_test (is_ret (cell_in cells k)) (and_parts (nat_lt k 48) (not (is_ret (cell_in cells k))) may).1 where
   by_test : (b : Bool) → not b ≡ true → b ≡ false
-  by_test true no = absurd (true≢false (sym no))
-  by_test false no = refl
+  by_test true none = absurd (true≢false (sym none))
+  by_test false none = refl
 
 zero_over : (t : List ℕ) → is_over t (Words (0 ∷ [])) ≡ true
 zero_over t = word_over t 0
@@ -162,3 +161,13 @@ tested_falls t more (When condition truth) a b is is_more in_more lesser greater
           subst (λ (f : Flags). is_less (refined more (condition % 16) truth a a.flags) (refined t (condition % 16) truth b f) ≡ true) (sym none)
           (refined_under t more (condition % 16) truth a b is is_more in_more lesser greater up a.flags (stands more a lesser).named)
     ]
+
+-- what the code tests
+pub always_is : (t : List ℕ) (test : Test) (s : State) → test ≡ Always → Some s ≡ tested t test s
+unfolding tested
+always_is t test s is = ap (λ (x : Test). tested t x s) (sym is)
+
+pub when_is : (t : List ℕ) (test : Test) (condition : ℕ) (truth : Bool) (s : State) → test ≡ When condition truth
+    → refined t (condition % 16) truth s s.flags ≡ tested t test s
+unfolding tested
+when_is t test condition truth s is = ap (λ (x : Test). tested t x s) (sym is)

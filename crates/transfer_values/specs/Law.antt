@@ -1,6 +1,6 @@
 -- Laws of the functions that compute with states: what they give stands where the state does, and of less, and over more
 -- thresholds, they give no more.
-use Rattle.std.specs.Prelude.{◌≡◌, ℕ, ◌≤◌, Bool, true, List, length, Contains}
+use Rattle.std.specs.Prelude.{◌≡◌, ℕ, ◌≤◌, true, List, length, Contains}
 use Rattle.assert_bind.specs.declared.body.BoundAssertion.{BoundAssertion}
 use Rattle.value_lattice.specs.Laws.{AreMore}
 use Rattle.value_lattice.specs.Thresholds.{IsThresholds}

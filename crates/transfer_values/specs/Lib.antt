@@ -5,3 +5,4 @@ pub mod Narrow
 pub mod Resolve
 pub mod Family
 pub mod Law
+pub mod Cover

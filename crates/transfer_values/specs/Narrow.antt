@@ -1,5 +1,5 @@
 -- What is left of a state where the assertions on registers hold.
-use Rattle.std.specs.Prelude.{ℕ, ℤ, List, [], ◌∷◌, Option, Some, None}
+use Rattle.std.specs.Prelude.{ℕ, ℤ, ◌-◌, List, [], ◌∷◌, Option, Some, None}
 use Rattle.std.specs.List.{range_with_len}
 use Rattle.std.specs.Option.{option_and_then}
 use Rattle.assert_bind.specs.Binding.{range}
@@ -20,6 +20,10 @@ narrowed_to t (Some (lo, hi)) c s = left_with c s (within t (cell_at s c) (rank_
 abbrev pub narrowed_by : List ℕ → List BoundAssertion → Place → List ℕ → State → Option State
 narrowed_by t list p [] s = Some s
 narrowed_by t list p (r ∷ rest) s = option_and_then (narrowed_by t list p rest) (narrowed_to t (range list p.pc r) (cell_of p.depth r) s)
+
+-- the same from one register on, to r31
+unfoldable pub narrowed_from : List ℕ → List BoundAssertion → Place → ℕ → State → Option State
+narrowed_from t list p r s = narrowed_by t list p (range_with_len r (32 - r)) s
 
 -- what is left of a state at a place where the assertions on its registers hold, from r1 to r31 of the window at its depth
 unfoldable pub narrowed : List ℕ → List BoundAssertion → Place → State → Option State

@@ -1,5 +1,5 @@
 -- Where a transfer goes.
-use Rattle.std.specs.Prelude.{◌==◌, ℕ, ◌+◌, ◌^◌, Bool, true, false, ◌&&◌, ◌||◌, not, eqb, nat_lt, nat_le, List, [], ◌∷◌, ◌++◌, length, Option, Some, None}
+use Rattle.std.specs.Prelude.{◌==◌, ℕ, ◌+◌, ◌^◌, Bool, true, false, ◌&&◌, ◌||◌, not, eqb, nat_lt, nat_le, List, [], ◌∷◌, length, Option, Some, None}
 use Rattle.std.specs.List.{list_all, list_any, flat_map, range_with_len}
 use Rattle.std.specs.Set.{is_member}
 use Rattle.bt_image.specs.File.{section_count}
@@ -46,9 +46,13 @@ is_of a (Some s) = nat_le s.address a && nat_lt a (s.address + s.size)
 abbrev pub parts : ℕ → ℕ → ℕ → Bool
 parts a b f = (nat_lt a f && nat_le f b) || (nat_lt b f && nat_le f a)
 
--- an address is in the extent of another: both are in one section of code, and no function begins between them
+-- an address is in the section of code of another, and no function begins between them
+abbrev pub is_within : List ℕ → ℕ → ℕ → Bool
+is_within image pc a = is_of a (holder is_code_section image pc 4) && list_all (λ f. not (parts pc a f)) (functions image)
+
+-- an address is in the extent of a code address: both are in one section of code, and no function begins between them
 unfoldable pub is_near : List ℕ → ℕ → ℕ → Bool
-is_near image pc a = is_of a (holder is_code_section image pc 4) && list_all (λ f. not (parts pc a f)) (functions image)
+is_near image pc a = is_code image pc && is_within image pc a
 
 -- a code address that stands in a word which no run writes
 abbrev pub is_label : List ℕ → ℕ → Bool

@@ -2,7 +2,7 @@
 use Rattle.std.specs.Prelude.{ℕ, Bool, ◌&&◌, List, nat_lt, Option, Some, None, if◌then◌else◌}
 use Rattle.std.specs.Option.{option_map, option_and_then}
 use Rattle.value_lattice.specs.Least.{top}
-use Rattle.value_lattice.specs.Value.{is_ret}
+use Rattle.value_lattice.specs.Value.{IsValue, is_ret}
 use Rattle.value_lattice.specs.declared.value.Value.{Value}
 use Rattle.abs_state.specs.State.{State, cell_at, with_cell, with_flags, may_speak}
 use Rattle.abs_state.specs.declared.flags.Flags.{Flags}
@@ -12,6 +12,8 @@ use Rattle.abs_state.specs.declared.flags.Right.TheVariants.{Cell, Word}
 use Rattle.transfer_rules.specs.declared.step.Step.{Step}
 use Rattle.transfer_rules.specs.declared.step.Write.{Write}
 use Rattle.transfer_values.specs.Source.{source_value}
+use Rattle.transfer_values.specs.declared.stepping.Outcome.{Outcome}
+use Rattle.transfer_values.specs.declared.stepping.Outcome.TheVariants.{Stays, Stops, Puts}
 
 -- a cell that can be written: not that of r0
 abbrev pub is_writable : ℕ → Bool
@@ -26,6 +28,17 @@ put c s (Some v) = Some (if is_writable c then with_cell s c v else s)
 abbrev pub written : List ℕ → List ℕ → State → Option Write → State → Option State
 written t image before None s = Some s
 written t image before (Some w) s = put w.cell s (source_value t image before w.source)
+
+-- the same, once the value of the write is known
+abbrev pub outcome : Outcome → State → Option State
+outcome Stays s = Some s
+outcome Stops s = None
+outcome (Puts c v) s = put c s (Some v)
+
+abbrev pub PutsValue : Outcome → Type 0
+PutsValue Stays = Unit {0}
+PutsValue Stops = Unit {0}
+PutsValue (Puts c v) = IsValue v
 
 -- where a cell is the return address, it becomes any word: flags can't speak of it
 abbrev pub freed : ℕ → State → State

@@ -3,5 +3,17 @@
 #![tactic(auto)]
 
 mod laws;
+mod narrowing;
+mod operands;
+mod resolving;
+mod sources;
+mod stepping;
+mod testing;
 
-pub use laws::{families_are_lawful, states_fall, states_stay_over, targets_fall};
+pub use laws::{
+    families_are_lawful, sources_cover, states_fall, states_stay_over, targets_cover, targets_fall,
+};
+pub use narrowing::narrowed;
+pub use resolving::resolved;
+pub use stepping::stepped;
+pub use testing::tested;

@@ -1,0 +1,5 @@
+pub mod ActFacts
+pub mod Taking
+pub mod Leading
+pub mod Calling
+pub mod Covering

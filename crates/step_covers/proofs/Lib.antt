@@ -1,0 +1,12 @@
+pub mod ActLemmas
+pub mod CodeLemmas
+pub mod CoveredLemmas
+pub mod DoLemmas
+pub mod FollowLemmas
+pub mod LeadLemmas
+pub mod MirrorLemmas
+pub mod ReadLemmas
+pub mod SourceLemmas
+pub mod StateLemmas
+pub mod WorkedLemmas
+pub mod WriteLemmas

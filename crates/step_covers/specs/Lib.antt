@@ -1,0 +1,5 @@
+pub mod Covered
+pub mod Does
+pub mod Follows
+pub mod Says
+pub mod Worked
