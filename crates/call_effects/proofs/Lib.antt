@@ -1,3 +1,4 @@
 pub mod MaskLemmas
 pub mod CallLemmas
 pub mod CellLemmas
+pub mod SummaryLemmas

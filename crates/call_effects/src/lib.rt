@@ -10,7 +10,7 @@ mod summary;
 pub use cells::cell_of;
 pub use laws::{
     calls_write_what_stands, cells_tell_registers_apart, larger_masks_write_more, masks_are_sets,
-    masks_stay_masks, test_decides_masks,
+    masks_stay_masks, summaries_are_joined, summaries_are_ordered, test_decides_masks,
 };
 pub use mask::{Mask, after_call};
 pub use summary::{Summary, stub_summary};

@@ -1,12 +1,11 @@
 -- What is found at keys: of which kind it is, its order, its join, and how far it may rise.
-use Rattle.std.specs.Prelude.{◌==◌, ◌≡◌, ℕ, ◌+◌, ◌*◌, ◌^◌, ◌&&◌, Bool, true, false, List, [], ◌∷◌, length, Option, Some, None, nat_lt, if◌then◌else◌}
+use Rattle.std.specs.Prelude.{◌==◌, ℕ, ◌+◌, ◌*◌, ◌^◌, ◌&&◌, Bool, true, false, List, length, Option, Some, None, nat_lt, if◌then◌else◌}
 use Rattle.std.specs.List.{list_all}
 use Rattle.call_effects.specs.Mask.{is_mask}
 use Rattle.call_effects.specs.Summary.{joined as joined_effects, is_at_most as are_effects_at_most}
 use Rattle.call_effects.specs.declared.summary.Summary.{Summary as Effects}
 use Rattle.value_lattice.specs.Height.{are_at_most, heights}
 use Rattle.value_lattice.specs.Test.{is_over}
-use Rattle.value_lattice.specs.declared.value.Value.{Value}
 use Rattle.abs_state.specs.State.{State, is_state_over, joined_cells, joined as joined_states, is_at_most as is_state_at_most, rank as state_rank}
 use Rattle.abs_state.specs.declared.key.Key.{Key}
 use Rattle.abs_state.specs.declared.key.Key.TheVariants.{Node, Edge, Call, Summary, Gap}

@@ -1,5 +1,5 @@
 -- What a program point gives over the facts.
-use Rattle.std.specs.Prelude.{◌==◌, ◌≡◌, ℕ, ◌+◌, ◌%◌, ◌^◌, Bool, true, false, not, ◌&&◌, ◌||◌, List, [], ◌∷◌, ◌++◌, map, filter, Option, Some, None, if◌then◌else◌, nat_lt}
+use Rattle.std.specs.Prelude.{◌==◌, ℕ, ◌+◌, ◌%◌, ◌^◌, Bool, true, false, not, ◌&&◌, List, [], ◌∷◌, ◌++◌, map, Option, Some, None, if◌then◌else◌, nat_lt}
 use Rattle.std.specs.List.{flat_map, list_any}
 use Rattle.call_effects.specs.Cell.{cell_of}
 use Rattle.call_effects.specs.Mask.{with_cell, after_call}
@@ -23,7 +23,6 @@ use Rattle.jump_resolve.specs.declared.resolved.Resolved.{Resolved}
 use Rattle.transfer_rules.specs.Family.{Family, Program}
 use Rattle.transfer_rules.specs.declared.act.Act.{Act}
 use Rattle.transfer_rules.specs.declared.act.Act.TheVariants.{Dead, Open, Acts}
-use Rattle.transfer_rules.specs.declared.act.Aim.{Aim}
 use Rattle.transfer_rules.specs.declared.act.Exit.{Exit}
 use Rattle.transfer_rules.specs.declared.act.Way.{Way}
 use Rattle.transfer_rules.specs.declared.act.Way.TheVariants.{Onward, Forks, CallsTo, JumpsTo, ReturnsBy}
@@ -142,24 +141,31 @@ abbrev pub exits : Family → Place → Option Exit → State → List Piece
 exits f p None s = []
 exits f p (Some exit) s = pieces_of (f.test exit.test s) (goes p (place p exit.pc (At exit.npc) p.depth))
 
--- the targets that a call is followed to: not to the address behind its delay instruction
-abbrev pub is_followed : Place → ℕ → Bool
-is_followed p t = not (t == behind p.pc 8)
-
--- whether all targets of a call are followed
-abbrev pub is_known : Place → Resolved → Bool
-is_known p targets = targets.whole && not (list_any (λ t. t == behind p.pc 8) targets.list)
-
 -- behind the delay instruction
 abbrev pub delayed : Place → Next → Place
 delayed p next = place p (behind p.pc 4) next p.depth
+
+-- a call isn't followed to the address behind its delay instruction
+abbrev pub is_behind : Place → ℕ → Bool
+is_behind p t = t == behind p.pc 8
+
+-- whether all targets of a call are followed
+abbrev pub is_known : Place → Resolved → Bool
+is_known p targets = targets.whole && not (list_any (is_behind p) targets.list)
+
+-- into a subprogram, and to an address, once the delay instruction is done
+abbrev pub called_to : Place → State → ℕ → List Piece
+called_to p s t = given_if (not (is_behind p t)) (goes p (delayed p (Into t)) s)
+
+abbrev pub jumped_to : Place → State → ℕ → List Piece
+jumped_to p s t = goes p (delayed p (At t)) s
 
 -- the pieces of the same subprogram, of a state before a step and the one behind it
 abbrev pub here : Family → Place → Step → Way → Option Effects → State → State → List Piece
 here f p step Onward callee before s = here_to p.next p step.depth callee s
 here f p step (Forks first second) callee before s = exits f p first s ++ exits f p second s
-here f p step (CallsTo aim) callee before s = flat_map (λ t. goes p (delayed p (Into t)) s) (filter (is_followed p) (f.resolve p.pc aim before).list)
-here f p step (JumpsTo aim) callee before s = flat_map (λ t. goes p (delayed p (At t)) s) (f.resolve p.pc aim before).list
+here f p step (CallsTo aim) callee before s = flat_map (called_to p s) (f.resolve p.pc aim before).list
+here f p step (JumpsTo aim) callee before s = flat_map (jumped_to p s) (f.resolve p.pc aim before).list
 here f p step (ReturnsBy c) callee before s = given_if (is_value_at_most Ret (cell_at before c)) (goes p (delayed p Back) s)
 
 -- what is said of the subprogram and of what it calls

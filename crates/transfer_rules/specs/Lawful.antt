@@ -12,7 +12,6 @@ use Rattle.flow_system.specs.Rules.{Rules}
 use Rattle.transfer_rules.specs.Fact.{fits, is_at_most, is_shallow, joined, rank, top_rank}
 use Rattle.transfer_rules.specs.Family.{Family, Program}
 use Rattle.transfer_rules.specs.Give.{gives, reads, is_counted, starts}
-use Rattle.transfer_rules.specs.declared.act.Act.{Act}
 use Rattle.transfer_rules.specs.declared.act.Act.TheVariants.{Acts}
 use Rattle.transfer_rules.specs.declared.act.Aim.{Aim}
 use Rattle.transfer_rules.specs.declared.act.Test.{Test}

@@ -4,8 +4,10 @@
 
 mod act;
 mod fact;
+mod laws;
 mod step;
 
 pub use act::{Act, Aim, Candidates, Exit, Test, Way};
 pub use fact::Fact;
+pub use laws::{more_thresholds_are_finer, rules_are_lawful};
 pub use step::{Source, Step, Write};
