@@ -3,6 +3,7 @@
 
 mod arguments;
 mod calls;
+mod facts;
 mod giving;
 mod masks;
 mod nodes;
@@ -12,6 +13,7 @@ mod starting;
 mod transfers;
 mod ways;
 
+pub use facts::{at_most, copy, join};
 pub use giving::{counted, give, reads};
 pub use starting::starts;
 pub use transfers::Transfers;
