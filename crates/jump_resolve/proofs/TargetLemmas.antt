@@ -11,7 +11,7 @@ use Rattle.bt_image.specs.Image.{is_code}
 use Rattle.value_lattice.proofs.LeastLemmas.{head_or_tail}
 use Rattle.value_lattice.proofs.MayLemmas.{may_have_more, may_be_any}
 use Rattle.bt_base.proofs.RisingLists.{same_rising}
-use Rattle.value_lattice.proofs.SetLemmas.{place_of_below}
+use Rattle.value_lattice.proofs.SetLemmas.{place_of_below, length_rising_in}
 use Rattle.value_lattice.proofs.TestLemmas.{member_decides, may_have_decides, ordered}
 use Rattle.value_lattice.proofs.WordsBelowLemmas.{words_rise, words_fit, words_pass, passing_is_there, passed, passes_from, IsPassed}
 use Rattle.value_lattice.specs.Order.{place_of, word_at, rank_of}
@@ -20,14 +20,14 @@ use Rattle.value_lattice.specs.Test.{may_have, is_at_most, AreOrdered}
 use Rattle.value_lattice.specs.Value.{MayHave}
 use Rattle.value_lattice.specs.declared.value.Value.{Value}
 use Rattle.value_lattice.specs.declared.value.Value.TheVariants.{Words, Range, Ret}
-use Rattle.jump_resolve.specs.Law.{IsTarget, HasEach, TargetsAreExact, TargetsRise}
+use Rattle.jump_resolve.specs.Law.{IsTarget, HasEach, TargetsAreExact, TargetsRise, TargetsAreFew}
 use Rattle.jump_resolve.specs.Target.{may_go, is_target, target_list, is_other, is_whole, targets}
 
 -- what a filter keeps, in terms of what a list has
 later : (y : ℕ) (ys : List ℕ) (a : ℕ) → Contains ys a → Contains (y ∷ ys) a
 later y ys a there = (suc there.0, omega (arith, there.1), there.2)
 
-kept_by : (p : ℕ → Bool) (xs : List ℕ) (a : ℕ) → Contains xs a → p a ≡ true → Contains (filter p xs) a
+pub kept_by : (p : ℕ → Bool) (xs : List ℕ) (a : ℕ) → Contains xs a → p a ≡ true → Contains (filter p xs) a
 kept_by p [] a there passes = absurd (omega (arith, there.1))
 kept_by p (x ∷ xs) a there passes = ⊎_elim first (λ more. chosen (p x) (kept_by p xs a more passes)) (head_or_tail x xs a there) where
   first : a ≡ x → Contains (filter p (x ∷ xs)) a
@@ -37,10 +37,10 @@ kept_by p (x ∷ xs) a there passes = ⊎_elim first (λ more. chosen (p x) (kep
   chosen true more = later x (filter p xs) a more
   chosen false more = more
 
-kept_from : (p : ℕ → Bool) (xs : List ℕ) (a : ℕ) → Contains (filter p xs) a → Contains xs a
+pub kept_from : (p : ℕ → Bool) (xs : List ℕ) (a : ℕ) → Contains (filter p xs) a → Contains xs a
 kept_from p xs a there = All-contains (Contains xs) (filter p xs) a (All-filter p (Contains xs) xs (All-contains_itself xs)) there
 
-kept_passes : (p : ℕ → Bool) (xs : List ℕ) (a : ℕ) → Contains (filter p xs) a → p a ≡ true
+pub kept_passes : (p : ℕ → Bool) (xs : List ℕ) (a : ℕ) → Contains (filter p xs) a → p a ≡ true
 kept_passes p xs a there = All-contains (λ x. p x ≡ true) (filter p xs) a (filter_passes p xs) there
 
 -- the list rises
@@ -119,6 +119,10 @@ targets_rise = record { list = list; whole = whole } where
       (whole_decides v (target_list image v candidates)).1 (λ a below aligned may.
       let is = in_list image u candidates a (each a below aligned (more v u a below up may)) in
       is_in_list image v candidates a (record { word = below; candidate = is.candidate; code = is.code; may = may }))
+
+pub targets_are_few : TargetsAreFew
+targets_are_few image v candidates asserted =
+    length_rising_in (target_list image v candidates) candidates (list_rises image v candidates) (λ a there. (in_list image v candidates a there).candidate)
 
 -- the list that the code makes
 pub made_list : (image : List ℕ) (v : Value) (candidates list : List ℕ) → All (λ a. a < 2 ^ 32) candidates → IsStrictlyIncreasing list → ((a : ℕ) → Contains (filter (may_go image v) candidates) a → Contains list a) → ((a : ℕ) → Contains list a → Contains (filter (may_go image v) candidates) a) → list ≡ target_list image v candidates

@@ -1,5 +1,5 @@
 -- Laws of targets.
-use Rattle.std.specs.Prelude.{◌≡◌, ℕ, ◌%◌, ◌^◌, ◌<◌, ◌⊎◌, ◌↔◌, Bool, true, List, Contains}
+use Rattle.std.specs.Prelude.{◌≡◌, ℕ, ◌%◌, ◌^◌, ◌<◌, ◌≤◌, ◌⊎◌, ◌↔◌, Bool, true, List, length, Contains}
 use Rattle.std.specs.List.Sorted.{IsStrictlyIncreasing}
 use Rattle.bt_image.specs.Image.{is_code}
 use Rattle.value_lattice.specs.Test.{is_at_most}
@@ -28,3 +28,7 @@ pub record TargetsAreExact : Type 0 where
 pub record TargetsRise : Type 0 where
   pub list : (image : List ℕ) (v u : Value) (candidates : List ℕ) (asserted : Bool) (a : ℕ) → is_at_most v u ≡ true → Contains (targets image v candidates asserted).list a → Contains (targets image u candidates asserted).list a
   pub whole : (image : List ℕ) (v u : Value) (candidates : List ℕ) (asserted : Bool) → is_at_most v u ≡ true → (targets image u candidates asserted).whole ≡ true → (targets image v candidates asserted).whole ≡ true
+
+-- there are no more targets than candidates
+abbrev pub TargetsAreFew : Type 0
+TargetsAreFew = (image : List ℕ) (v : Value) (candidates : List ℕ) (asserted : Bool) → length (targets image v candidates asserted).list ≤ length candidates

@@ -5,6 +5,6 @@ mod laws;
 mod resolved;
 mod resolving;
 
-pub use laws::{targets_are_exact, targets_rise};
+pub use laws::{targets_are_exact, targets_are_few, targets_rise};
 pub use resolved::{Resolved, TargetList};
 pub use resolving::targets;

@@ -6,3 +6,4 @@ pub mod Rising
 pub mod Fitting
 pub mod Lengths
 pub mod System
+pub mod Giving

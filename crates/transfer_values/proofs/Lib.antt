@@ -1,0 +1,10 @@
+pub mod PartLemmas
+pub mod SourceLemmas
+pub mod StepLemmas
+pub mod TestLemmas
+pub mod NarrowLemmas
+pub mod ResolveLemmas
+pub mod LawLemmas
+pub mod CoverLemmas
+pub mod CandidateLemmas
+pub mod CodeLemmas
