@@ -1,5 +1,5 @@
 -- The laws of the system of an image and of assertions, over any thresholds.
-use Rattle.std.proofs.Common.{◌≡◌, ℕ, Bool, List}
+use Rattle.std.proofs.Common.{ℕ, Bool, List}
 use Rattle.std.proofs.Props.{props}
 use Rattle.std.specs.List.Sorted.{IsStrictlySortedBy-prop}
 use Rattle.abs_state.specs.Key.{compare}

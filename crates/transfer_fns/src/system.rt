@@ -1,5 +1,6 @@
-ghost use Rattle.std.specs.Prelude.{◌≡◌, All};
+ghost use Rattle.std.specs.Prelude.{◌≡◌, All, IfOk};
 ghost use Rattle.assert_bind.specs.Body.{SpeaksOfCodeIn};
+ghost use Rattle.code_thresholds.specs.Number.{AreThresholdsOf};
 ghost use Rattle.transfer_fns.specs.Laws.{AreNumbers-prop, lawful_over};
 ghost use Rattle.transfer_fns.specs.Numbers.{AreNumbers};
 ghost use Rattle.transfer_fns.specs.Setting.{rules_over};
@@ -9,6 +10,7 @@ use abs_state::Key;
 use assert_bind::Binding;
 use bt_base::Want;
 use bt_image::Image;
+use code_thresholds::thresholds;
 use flow_system::{Facts, System};
 use std::alloc::Global;
 use transfer_rules::Fact;
@@ -29,6 +31,25 @@ pub struct SparcSystem {
 }
 
 impl SparcSystem {
+    /// The system of an image and of assertions, over the thresholds of the program. The assertions speak of code of this
+    /// image, as binding gives them. Multiplications and divisions are followed where `eight` is true, as with a table of
+    /// cycles of version 2.
+    pub fn make(
+        alloc: Global,
+        image: Image,
+        binding: Binding,
+        eight: bool,
+    ) -> Result<SparcSystem, Want>
+        requires { All (SpeaksOfCodeIn image) binding }
+        ensures image { IfOk result (λ s. s.image ≡ image) }
+        ensures binding { IfOk result (λ s. s.binding ≡ binding) }
+        ensures eight { IfOk result (λ s. s.eight ≡ eight) }
+        ensures thresholds { IfOk result (λ s. AreThresholdsOf image binding s.thresholds) }
+    {
+        let thresholds = thresholds(alloc, &image, &binding)?;
+        Ok(SparcSystem::over(image, binding, eight, thresholds))
+    }
+
     /// The system of an image and of assertions over thresholds. The assertions speak of code of this image, as binding
     /// gives them. Multiplications and divisions are followed where `eight` is true, as with a table of cycles of
     /// version 2.
