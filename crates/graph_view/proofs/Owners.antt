@@ -10,8 +10,9 @@ use Rattle.abs_state.specs.Key.{compare}
 use Rattle.abs_state.specs.declared.key.Key.{Key}
 use Rattle.abs_state.specs.declared.key.Key.TheVariants.{Node, Edge, Call, Summary, Gap}
 use Rattle.graph_view.specs.Laws.{AreOwned, KeysAreOwned}
-use Rattle.graph_view.specs.Lists.{place_in, step_in, calling_in, open_in}
-use Rattle.graph_view.specs.Subs.{place_sub, step_sub, calling_sub, open_sub}
+use Rattle.graph_view.specs.Lists.{place_in, step_in, calling_in, open_in, AreOfKeys}
+use Rattle.graph_view.specs.Subs.{place_sub, step_sub, calling_sub, open_sub, AreByOwner}
+use Rattle.graph_view.specs.declared.lists.KeyLists.{KeyLists}
 
 -- lists by rising numbers, for recursion
 
@@ -175,3 +176,13 @@ keys_are_owned keys rise = record {
   callings = climbs_at calling_sub (flat_map calling_in keys) (climbs_all calling_sub calling_in calling_down calling_own keys rise);
   opens = climbs_at open_sub (flat_map open_in keys) (climbs_all open_sub open_in open_down open_own keys rise);
 }
+
+-- so are the lists of these keys
+pub by_owner_from : (keys : List Key) (lists : KeyLists) → IsStrictlySortedBy compare keys → AreOfKeys keys lists → AreByOwner lists
+by_owner_from keys lists rise are =
+    let owned : AreOwned keys = keys_are_owned keys rise in record {
+      places = subst (λ list. IsNonDecreasingBy place_sub list) (sym are.places) owned.places;
+      steps = subst (λ list. IsNonDecreasingBy step_sub list) (sym are.steps) owned.steps;
+      callings = subst (λ list. IsNonDecreasingBy calling_sub list) (sym are.callings) owned.callings;
+      opens = subst (λ list. IsNonDecreasingBy open_sub list) (sym are.opens) owned.opens;
+    }

@@ -1,9 +1,10 @@
 -- What is of one subprogram, and which subprograms have program points.
 use Rattle.std.specs.Prelude.{◌≡◌, ℕ, ◌==◌, ◌↔◌, List, Contains, map}
 use Rattle.std.specs.List.{filter}
-use Rattle.std.specs.List.Sorted.{IsStrictlyIncreasing}
+use Rattle.std.specs.List.Sorted.{IsNonDecreasingBy, IsStrictlyIncreasing}
 use Rattle.abs_state.specs.declared.key.Place.{Place}
 use Rattle.graph_view.specs.declared.lists.Calling.{Calling}
+use Rattle.graph_view.specs.declared.lists.KeyLists.{KeyLists}
 use Rattle.graph_view.specs.declared.lists.OpenPoint.{OpenPoint}
 use Rattle.graph_view.specs.declared.lists.Step.{Step}
 
@@ -29,3 +30,10 @@ pub record AreSubs (places : List Place) (subs : List ℕ) : Type 0 where
   pub rising : IsStrictlyIncreasing subs
   pub has : (sub : ℕ) → Contains subs sub → Contains (map place_sub places) sub
   pub all : (sub : ℕ) → Contains (map place_sub places) sub → Contains subs sub
+
+-- each list of keys by their kind is by rising subprograms
+pub record AreByOwner (lists : KeyLists) : Type 0 where
+  pub places : IsNonDecreasingBy place_sub lists.places.items
+  pub steps : IsNonDecreasingBy step_sub lists.steps.items
+  pub callings : IsNonDecreasingBy calling_sub lists.callings.items
+  pub opens : IsNonDecreasingBy open_sub lists.opens.items

@@ -1,6 +1,9 @@
 ghost use Rattle.std.specs.Prelude.{◌≡◌, ◌++◌, IfOk};
 ghost use Rattle.std.specs.List.{flat_map};
+ghost use Rattle.std.specs.List.Sorted.{IsStrictlySortedBy};
+ghost use Rattle.abs_state.specs.Key.{compare};
 ghost use Rattle.graph_view.specs.Lists.{place_in, step_in, calling_in, open_in, AreOfKeys};
+ghost use Rattle.graph_view.specs.Subs.{AreByOwner};
 
 use abs_state::{GapKind, Key, Place};
 use bt_base::Want;
@@ -167,9 +170,11 @@ fn opens_of(alloc: Global, keys: &[Key]) -> Result<Vec<OpenPoint>, Want>
 }
 
 impl KeyLists {
-    /// Keys by their kind.
+    /// Keys by their kind. The keys rise, so each list is by rising subprograms.
     pub fn of(alloc: Global, keys: &[Key]) -> Result<KeyLists, Want>
-        ensures { IfOk result (AreOfKeys keys.now) }
+        requires { IsStrictlySortedBy compare keys.now }
+        ensures keys { IfOk result (AreOfKeys keys.now) }
+        ensures owned { IfOk result AreByOwner }
     {
         let places = places_of(alloc, keys)?;
         let steps = steps_of(alloc, keys)?;

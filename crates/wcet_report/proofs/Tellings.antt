@@ -50,21 +50,21 @@ no_words : Words
 no_words = record { first = []; rest = [] }
 
 -- two bytes of the first word of a first line, which tell the kinds of lines apart
-abbrev mark : List Words → ℕ
+abbrev pub mark : List Words → ℕ
 mark [] = 0
 mark (line ∷ lines) = get_or line.first 0 0 * 256 + get_or line.first 1 0
 
-first_line : List Words → Words
+pub first_line : List Words → Words
 unfolding no_words
 first_line [] = no_words
 first_line (line ∷ lines) = line
 
-lines_behind : List Words → List Words
+pub lines_behind : List Words → List Words
 lines_behind [] = []
 lines_behind (line ∷ lines) = lines
 
 -- lines of one kind before a line of another kind tell what they are of and what follows
-cut_items : {X : Type 0} (f g : X → Words) (m : ℕ) (P : X → Type 0) → ((x : X) (ls : List Words) → mark (f x ∷ ls) ≡ m)
+pub cut_items : {X : Type 0} (f g : X → Words) (m : ℕ) (P : X → Type 0) → ((x : X) (ls : List Words) → mark (f x ∷ ls) ≡ m)
     → ((x : X) (ls : List Words) → mark (g x ∷ ls) ≡ m) → ((x y : X) → P x → P y → f x ≡ g y → x ≡ y) → (xs ys : List X) (r s : List Words)
     → Each P xs → Each P ys → (mark r ≡ m → ⊥) → (mark s ≡ m → ⊥) → map f xs ++ r ≡ map g ys ++ s → (xs ≡ ys) × (r ≡ s)
 unfolding first_line lines_behind
@@ -190,11 +190,11 @@ all_tell image (o ∷ list) (u ∷ also) (p ∷ ps) (q ∷ qs) each other good f
 
 -- the texts of lines
 
-mapped_text : {X : Type 0} (f : X → Words) (xs : List X) → lines_text (map f xs) ≡ flat_map (λ x. words_text (f x)) xs
+pub mapped_text : {X : Type 0} (f : X → Words) (xs : List X) → lines_text (map f xs) ≡ flat_map (λ x. words_text (f x)) xs
 mapped_text f [] = refl
 mapped_text f (x ∷ xs) = ap (λ text. words_text (f x) ++ text) (mapped_text f xs)
 
-lines-append : (ls ms : List Words) → lines_text (ls ++ ms) ≡ lines_text ls ++ lines_text ms
+pub lines-append : (ls ms : List Words) → lines_text (ls ++ ms) ≡ lines_text ls ++ lines_text ms
 lines-append ls ms = flat_map-append words_text ls ms
 
 all_text : (image : List ℕ) (list : List Outcome) (parts : List (List ℕ)) (each : AllZip (AreLines image) list parts)
@@ -247,7 +247,7 @@ report_text image outcomes text report =
 
 -- the lines of a report of proper outcomes are clean
 
-clean_items : {X : Type 0} (f : X → Words) (P : X → Type 0) → ((x : X) → P x → IsClean (f x)) → (xs : List X) (rest : List Words) → Each P xs
+pub clean_items : {X : Type 0} (f : X → Words) (P : X → Type 0) → ((x : X) → P x → IsClean (f x)) → (xs : List X) (rest : List Words) → Each P xs
     → AllClean rest → AllClean (map f xs ++ rest)
 clean_items f P clean [] rest at others = others
 clean_items f P clean (x ∷ xs) rest at others = (clean x at.0, clean_items f P clean xs rest at.1 others)

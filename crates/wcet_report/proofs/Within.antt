@@ -11,7 +11,7 @@ use Rattle.wcet_report.specs.declared.outcome.Outcome.{Outcome}
 use Rattle.wcet_report.specs.declared.outcome.Outcomes.{Outcomes}
 
 -- what stands in a text stands in a longer one
-longer : (part text front back : List ℕ) → HasWithin part text → HasWithin part (front ++ (text ++ back))
+pub longer : (part text front back : List ℕ) → HasWithin part text → HasWithin part (front ++ (text ++ back))
 longer part text front back has = record {
   before = front ++ has.before;
   after = has.after ++ back;
@@ -24,18 +24,18 @@ longer part text front back has = record {
 in_front : (part text back : List ℕ) → HasWithin part text → HasWithin part (text ++ back)
 in_front part text back has = longer part text [] back has
 
-behind : (part text front : List ℕ) → HasWithin part text → HasWithin part (front ++ text)
+pub behind : (part text front : List ℕ) → HasWithin part text → HasWithin part (front ++ text)
 behind part text front has = record {
   before = front ++ has.before;
   after = has.after;
   is = ap (λ t. front ++ t) has.is ∙ sym (append_assoc front has.before (part ++ has.after));
 }
 
-itself : (text back : List ℕ) → HasWithin text (text ++ back)
+pub itself : (text back : List ℕ) → HasWithin text (text ++ back)
 itself text back = record { before = []; after = back; is = refl }
 
 -- the text of an item stands in that of its list
-in_list : {X : Type 0} (f : X → List ℕ) (xs : List X) (x : X) → Contains xs x → HasWithin (f x) (flat_map f xs)
+pub in_list : {X : Type 0} (f : X → List ℕ) (xs : List X) (x : X) → Contains xs x → HasWithin (f x) (flat_map f xs)
 in_list f [] x (k, less, is) = absurd (omega (arith, less))
 in_list f (y ∷ ys) x (zero, less, is) = subst (λ z. HasWithin (f z) (f y ++ flat_map f ys)) is (itself (f y) (flat_map f ys))
 in_list f (y ∷ ys) x (suc k, less, is) = behind (f x) (flat_map f ys) (f y) (in_list f ys x (k, omega (arith, less), is))
