@@ -1,119 +1,144 @@
-//! Outcomes from tables.
-use abs_state::{Args, Place};
+//! Outcomes by hand.
+use abs_state::{Args, HeadBound, Next, Place};
 use bt_base::Want;
 use std::alloc::Global;
 use value_lattice::{Thresholds, Value, cover};
-use wcet_report::{
-    Context, LoopOutcome, Loops, Outcome, OutcomeList, Outcomes, Reason, Reasons, Roots,
-};
-
-/// What is known of an argument.
-#[derive(Clone, Copy)]
-pub(crate) enum Known<'a> {
-    /// It is one of these words.
-    Words(&'a [u32]),
-    /// It is, read with sign, from the first to the second.
-    Range(i32, i32),
-    /// It is the return address.
-    Ret,
-}
-
-/// An outcome of a table.
-#[derive(Clone, Copy)]
-pub(crate) struct Given<'a> {
-    /// The entry of its subprogram.
-    pub(crate) sub: u32,
-    /// Nothing for the plain context, else what is known of some of the 13 arguments.
-    pub(crate) known: Option<&'a [(usize, Known<'a>)]>,
-    /// Its loops.
-    pub(crate) loops: &'a [LoopOutcome],
-    /// Its reasons.
-    pub(crate) reasons: &'a [Reason],
-    /// Its bound.
-    pub(crate) bound: Option<u64>,
-}
+use wcet_report::{By, Context, LoopOutcome, Loops, Outcome, Reason, Reasons};
 
 /// A program point whose next word is the one behind it.
 pub(crate) fn at(sub: u32, pc: u32, depth: u8) -> Place {
     Place {
         sub,
         pc,
-        next: abs_state::Next::At(pc.wrapping_add(4)),
+        next: Next::At(pc.wrapping_add(4)),
         depth,
     }
 }
 
-/// The value of what is known.
-fn value_of(alloc: Global, known: Known<'_>) -> Result<Value, Want> {
-    match known {
-        Known::Words(words) => {
-            let thresholds = Thresholds::make(alloc, &[])?;
-            cover(alloc, words, &thresholds)
-        }
-        Known::Range(lo, hi) => Ok(Value::Range { lo, hi }),
-        Known::Ret => Ok(Value::Ret),
-    }
+/// The value of words.
+pub(crate) fn words(alloc: Global, list: &[u32]) -> Result<Value, Want> {
+    let thresholds = Thresholds::make(alloc, &[])?;
+    cover(alloc, list, &thresholds)
 }
 
-/// The value of the argument at a place.
-fn argument(alloc: Global, known: &[(usize, Known<'_>)], k: usize) -> Result<Value, Want> {
-    for (place, one) in known {
-        if *place == k {
-            return value_of(alloc, *one);
-        }
+/// Appends values of which nothing is known.
+fn put_tops(list: &mut Vec<Value>, count: u32) -> Result<(), Want> {
+    for _ in 0..count {
+        list.push(Value::top())?;
     }
-    Ok(Value::top())
+    Ok(())
 }
 
-/// The 13 arguments.
-fn arguments(alloc: Global, known: &[(usize, Known<'_>)]) -> Result<Args, Want> {
-    let mut list = Vec::new(alloc);
-    for k in 0..13 {
-        let value = argument(alloc, known, k)?;
-        list.push(value)?;
-    }
-    Ok(Args { list })
+/// A context in which %o0, %o5, %g1 and %g7 have these values, and nothing is known of the other arguments.
+pub(crate) fn known(
+    alloc: Global,
+    o0: Value,
+    o5: Value,
+    g1: Value,
+    g7: Value,
+) -> Result<Context, Want> {
+    let mut list = Vec::with_capacity(alloc, 13)?;
+    list.push(o0)?;
+    put_tops(&mut list, 4)?;
+    list.push(o5)?;
+    list.push(g1)?;
+    put_tops(&mut list, 5)?;
+    list.push(g7)?;
+    Ok(Context::With(Args { list }))
 }
 
-/// The context of what is known.
-fn context_of(alloc: Global, known: Option<&[(usize, Known<'_>)]>) -> Result<Context, Want> {
-    match known {
-        Some(known) => {
-            let args = arguments(alloc, known)?;
-            Ok(Context::With(args))
-        }
-        None => Ok(Context::Plain),
-    }
+/// A context in which nothing is known of the arguments.
+pub(crate) fn any(alloc: Global) -> Result<Context, Want> {
+    known(
+        alloc,
+        Value::top(),
+        Value::top(),
+        Value::top(),
+        Value::top(),
+    )
 }
 
-/// The outcome of a table's row.
-fn outcome_of(alloc: Global, given: &Given<'_>) -> Result<Outcome, Want> {
-    let context = context_of(alloc, given.known)?;
-    let loops = Vec::from_slice(alloc, given.loops)?;
-    let reasons = Vec::from_slice(alloc, given.reasons)?;
+/// A context in which %o0 is a word, and nothing is known of the other arguments.
+pub(crate) fn first(alloc: Global, word: u32) -> Result<Context, Want> {
+    let value = words(alloc, &[word])?;
+    known(alloc, value, Value::top(), Value::top(), Value::top())
+}
+
+/// An outcome with a bound.
+pub(crate) fn bounded(
+    alloc: Global,
+    sub: u32,
+    context: Context,
+    loops: &[LoopOutcome],
+    bound: u64,
+) -> Result<Outcome, Want> {
+    let loops = Vec::from_slice(alloc, loops)?;
     Ok(Outcome {
-        sub: given.sub,
+        sub,
+        context,
+        loops: Loops::new(loops),
+        reasons: Reasons::new(Vec::new(alloc)),
+        bound: Some(bound),
+    })
+}
+
+/// The outcome of a plain context without loops.
+pub(crate) fn plain(alloc: Global, sub: u32, bound: u64) -> Result<Outcome, Want> {
+    bounded(alloc, sub, Context::Plain, &[], bound)
+}
+
+/// An outcome with nothing known of the arguments, and the reasons why there is no bound.
+pub(crate) fn unbounded(
+    alloc: Global,
+    sub: u32,
+    loops: &[LoopOutcome],
+    reasons: &[Reason],
+) -> Result<Outcome, Want> {
+    let context = any(alloc)?;
+    let loops = Vec::from_slice(alloc, loops)?;
+    let reasons = Vec::from_slice(alloc, reasons)?;
+    Ok(Outcome {
+        sub,
         context,
         loops: Loops::new(loops),
         reasons: Reasons::new(reasons),
-        bound: given.bound,
+        bound: None,
     })
 }
 
-/// The outcomes of a table.
-pub(crate) fn outcomes_of(
-    alloc: Global,
-    roots: &[u32],
-    given: &[Given<'_>],
-) -> Result<Outcomes, Want> {
-    let roots = Vec::from_slice(alloc, roots)?;
-    let mut list = Vec::new(alloc);
-    for one in given {
-        let outcome = outcome_of(alloc, one)?;
-        list.push(outcome)?;
+/// A loop by a counter that goes from `lo` to `hi`.
+pub(crate) fn counted(
+    head: Place,
+    cell: u8,
+    step: i64,
+    lo: i32,
+    hi: i32,
+    passes: u64,
+) -> LoopOutcome {
+    LoopOutcome {
+        head,
+        by: By::Counter(HeadBound {
+            cell,
+            step,
+            lo,
+            hi,
+            passes,
+        }),
     }
-    Ok(Outcomes {
-        roots: Roots::new(roots),
-        list: OutcomeList::new(list),
-    })
+}
+
+/// A loop by an assertion.
+pub(crate) fn asserted(head: Place, count: u64) -> LoopOutcome {
+    LoopOutcome {
+        head,
+        by: By::Asserted(count),
+    }
+}
+
+/// A loop without a bound.
+pub(crate) fn endless(head: Place) -> LoopOutcome {
+    LoopOutcome {
+        head,
+        by: By::Nothing,
+    }
 }
