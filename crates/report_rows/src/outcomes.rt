@@ -1,4 +1,6 @@
 //! Outcomes by hand.
+ghost use Rattle.std.specs.Prelude.{◌<◌, length};
+
 use abs_state::{Args, HeadBound, Next, Place};
 use bt_base::Want;
 use std::alloc::Global;
@@ -15,8 +17,10 @@ pub(crate) fn at(sub: u32, pc: u32, depth: u8) -> Place {
     }
 }
 
-/// The value of words.
-pub(crate) fn words(alloc: Global, list: &[u32]) -> Result<Value, Want> {
+/// The value of words, of which there are some.
+pub(crate) fn words(alloc: Global, list: &[u32]) -> Result<Value, Want>
+    requires { 0 < length list.now }
+{
     let thresholds = Thresholds::make(alloc, &[])?;
     cover(alloc, list, &thresholds)
 }
