@@ -11,7 +11,7 @@ use Rattle.sparc_decode.specs.declared.instruction.Instr.{Instr}
 use Rattle.sparc_decode.specs.declared.instruction.Instr.TheVariants.{Call, Unimp, Sethi, Branch, FloatBranch, Alu, Tagged, MulStep, Shift, ReadY, WriteY, FloatOp, FloatCmp, Jmpl, Flush, Save, Restore, Ticc, Load, Store, Atomic, FloatMem, Unmodelled as UnmodelledWord, Unknown, Multiply, Divide}
 use Rattle.sparc_decode.specs.declared.instruction.LoadKind.{LoadKind}
 use Rattle.sparc_decode.specs.declared.instruction.LoadKind.TheVariants.{Ld, Ldub, Lduh, Ldd, Ldsb, Ldsh}
-use Rattle.sparc_machine.specs.Effect.{Effect, Done, Trapped, goes_on, flags_in, with_flags, is_in_order, in_order, target_of, address_in, branched, branch_effect, float_taken, jumped, is_invalid, turned, read_into, load_effect, is_odd_double_load, write_trap, store_effect, is_odd_double_store, atomic_effect, float_effect, unless_trapped, effect_of, is_modelled, modelled, step_cost, paid, stepped_from}
+use Rattle.sparc_machine.specs.Effect.{Effect, Done, Trapped, goes_on, flags_in, with_flags, is_in_order, in_order, target_of, address_in, branched, branch_effect, float_taken, jumped, is_invalid, turned, read_into, load_effect, is_odd_double_load, write_trap, store_effect, is_odd_double_store, atomic_effect, float_effect, unless_trapped, effect_of, is_in_version, modelled, step_cost, paid, stepped_from}
 use Rattle.sparc_machine.specs.Memory.{load_size, store_size, atomic_size, float_size, is_float_store}
 use Rattle.sparc_machine.specs.Kept.{IsKept, EachStepKeeps}
 use Rattle.sparc_machine.specs.Machine.{with_register, going_to, advanced, charged}
@@ -236,7 +236,7 @@ step_keeps : (image cycles : List ℕ) (free : Free) (m next : Machine) (here : 
     → stepped_from image cycles free m here ≡ Stepped next → IsKept m next
 step_keeps image cycles free m next None w e = cc
 step_keeps image cycles free m next (Some these) w e =
-    modelled_keeps m next (is_modelled (has_eight cycles) (instruction_of these)) _
+    modelled_keeps m next (is_in_version (has_eight cycles) (instruction_of these)) _
     (λ k. paid_keeps cycles m.loaded m next _ _ (keeps image free m (instruction_of these) w) k) e
 
 pub each_step_keeps : EachStepKeeps

@@ -247,11 +247,12 @@ effect_of image free m (Multiply cc rd rs1 second) =
     goes_on (with_register (freely_flagged m free cc) rd (product_of (register_of m rs1) (operand_of m second)))
 effect_of image free m (Divide cc rd rs1 second) = goes_on (with_register (freely_flagged m free cc) rd free.first)
 
--- whether an instruction is modelled where a table is of version 2 or isn't: multiplications and divisions only there
-abbrev pub is_modelled : Bool → Instr → Bool
-is_modelled eight (Multiply cc rd rs1 second) = eight
-is_modelled eight (Divide cc rd rs1 second) = eight
-is_modelled eight _ = true
+-- whether tables of a version have costs of an instruction: multiplications and divisions only those of version 2, which
+-- is `eight`
+abbrev pub is_in_version : Bool → Instr → Bool
+is_in_version eight (Multiply cc rd rs1 second) = eight
+is_in_version eight (Divide cc rd rs1 second) = eight
+is_in_version eight _ = true
 
 -- the word of code at an address
 abbrev pub code_word : List ℕ → ℕ → Option ℕ
@@ -268,7 +269,7 @@ paid cycles before instruction (Done m annulled) =
     Stepped (charged m (step_cost cycles before instruction annulled) (mask_of (registers_loaded instruction)))
 paid cycles before instruction (Trapped trap) = Stopped trap
 
--- an outcome, or a trap where the instruction isn't modelled
+-- an outcome, or a trap where the table's version has no cost of the instruction
 abbrev pub modelled : Bool → Outcome → Outcome
 modelled true outcome = outcome
 modelled false outcome = Stopped Unmodelled
@@ -276,7 +277,7 @@ modelled false outcome = Stopped Unmodelled
 -- what the step of an instruction comes to
 abbrev pub performed : List ℕ → List ℕ → Free → Machine → Instr → Outcome
 performed image cycles free m instruction =
-    modelled (is_modelled (has_eight cycles) instruction) (paid cycles m.loaded instruction (effect_of image free m instruction))
+    modelled (is_in_version (has_eight cycles) instruction) (paid cycles m.loaded instruction (effect_of image free m instruction))
 
 -- what a step over an image with a table of cycles comes to, where it finds these free values: the effect of the
 -- word at the program counter, at its cost
