@@ -1,7 +1,8 @@
 -- What each instruction does to a machine over an image (SPARC Architecture Manual Version 7, "Instructions"). What
 -- a step may freely find, in memory outside read-only sections, in the Y register and in the floating-point unit,
 -- is a value of its own.
-use Rattle.std.specs.Prelude.{◌==◌, ℕ, ◌+◌, ◌*◌, ◌/◌, ◌%◌, ◌^◌, ℤ, Bool, true, false, not, ◌&&◌, ◌||◌, List, Option, Some, None, nat_le, if◌then◌else◌, bit_and, bit_or, bit_xor}
+use Rattle.std.specs.Prelude.{◌==◌, ℕ, ◌+◌, ◌*◌, ◌/◌, ◌%◌, ◌^◌, ℤ, Bool, true, false, not, ◌&&◌, ◌||◌, List, Option}
+use Rattle.std.specs.Prelude.{Some, None, nat_le, if◌then◌else◌, bit_and, bit_or, bit_xor}
 use Rattle.std.specs.Int.{w32, cast_unsigned}
 use Rattle.bt_image.specs.Image.{word, is_code}
 use Rattle.cycle_table.specs.Class.{has_eight}
@@ -12,7 +13,12 @@ use Rattle.sparc_decode.specs.declared.instruction.AluOp.{AluOp}
 use Rattle.sparc_decode.specs.declared.instruction.AluOp.TheVariants.{Add, And, Or, Xor, Sub, Andn, Orn, Xnor, Addx, Subx}
 use Rattle.sparc_decode.specs.declared.instruction.FloatKind.{FloatKind}
 use Rattle.sparc_decode.specs.declared.instruction.Instr.{Instr}
-use Rattle.sparc_decode.specs.declared.instruction.Instr.TheVariants.{Call, Unimp, Sethi, Branch, FloatBranch, Alu, Tagged, MulStep, Shift, ReadY, WriteY, FloatOp, FloatCmp, Jmpl, Flush, Save, Restore, Ticc, Load, Store, Atomic, FloatMem, Unmodelled as UnmodelledWord, Unknown, Multiply, Divide}
+use Rattle.sparc_decode.specs.declared.instruction.Instr.TheVariants.{Call, Unimp, Sethi, Branch, FloatBranch, Alu}
+use Rattle.sparc_decode.specs.declared.instruction.Instr.TheVariants.{Tagged, MulStep, Shift, ReadY, WriteY, FloatOp}
+use Rattle.sparc_decode.specs.declared.instruction.Instr.TheVariants.{FloatCmp, Jmpl, Flush, Save, Restore, Ticc, Load}
+use Rattle.sparc_decode.specs.declared.instruction.Instr.TheVariants.{Store, Atomic, FloatMem}
+use Rattle.sparc_decode.specs.declared.instruction.Instr.TheVariants.{Unmodelled as UnmodelledWord, Unknown, Multiply}
+use Rattle.sparc_decode.specs.declared.instruction.Instr.TheVariants.{Divide}
 use Rattle.sparc_decode.specs.declared.instruction.LoadKind.{LoadKind}
 use Rattle.sparc_decode.specs.declared.instruction.LoadKind.TheVariants.{Ld, Ldub, Lduh, Ldd, Ldsb, Ldsh}
 use Rattle.sparc_decode.specs.declared.instruction.Second.{Second}
@@ -23,7 +29,8 @@ use Rattle.sparc_decode.specs.declared.instruction.StoreKind.TheVariants.{Std}
 use Rattle.sparc_decode.specs.declared.instruction.TaggedOp.{TaggedOp}
 use Rattle.sparc_decode.specs.declared.instruction.TaggedOp.TheVariants.{Taddcc, Tsubcc, Taddcctv, Tsubcctv}
 use Rattle.sparc_machine.specs.Machine.{register_of, with_register, operand_of, going_to, advanced, charged}
-use Rattle.sparc_machine.specs.Memory.{load_size, store_size, float_size, atomic_size, is_float_store, constant_bytes, touches, read_number, extended, first_word, second_word}
+use Rattle.sparc_machine.specs.Memory.{load_size, store_size, float_size, atomic_size, is_float_store, constant_bytes}
+use Rattle.sparc_machine.specs.Memory.{touches, read_number, extended, first_word, second_word}
 use Rattle.sparc_machine.specs.Outcome.{Outcome, Stepped, Stopped}
 use Rattle.sparc_machine.specs.declared.free.Free.{Free}
 use Rattle.sparc_machine.specs.declared.machine.Machine.{Machine}

@@ -1,5 +1,6 @@
 -- What a machine reads and computes are words.
-use Rattle.std.proofs.Common.{◌≡◌, ℕ, pos, negsuc, ◌+◌, ◌-◌, ◌%◌, ◌^◌, ◌<◌, Bool, true, false, List, Option, Some, None, All, refl, sym, subst, arith, cond, eqb, inl, inr, take, drop, length}
+use Rattle.std.proofs.Common.{◌≡◌, ℕ, pos, negsuc, ◌+◌, ◌-◌, ◌%◌, ◌^◌, ◌<◌, Bool, true, false, List, Option, Some, None}
+use Rattle.std.proofs.Common.{All, refl, sym, subst, arith, cond, eqb, inl, inr, take, drop, length}
 use Rattle.std.specs.Prelude.{slice_index, bit_xor, nat_lt}
 use Rattle.std.specs.Option.{option_map}
 use Rattle.std.proofs.Math.Nat.{div-le_self}
