@@ -1,5 +1,5 @@
 -- The worked run, its frames, and the assertions that it meets and breaks.
-use Rattle.std.proofs.Common.{◌≡◌, ℕ, zero, suc, pos, neg_ℤ, ◌+◌, ◌^◌, ◌<◌, ◌≤◌, false, List, [], ◌∷◌, ◌++◌, replicate}
+use Rattle.std.proofs.Common.{◌≡◌, ℕ, zero, suc, pos, neg_ℤ, ◌+◌, ◌^◌, ◌<◌, ◌≤◌, true, false, List, [], ◌∷◌, ◌++◌, replicate}
 use Rattle.std.proofs.Common.{map, All, Contains, refl, sym, ap, subst, ◌∙◌, arith, eq-eqb}
 use Rattle.std.specs.List.{list_all}
 use Rattle.std.specs.Prelude.{◌==◌, nat_lt}
@@ -65,8 +65,8 @@ bytes_from xs h k d less = ltb-true _ 256 (AllPass-from_list_all (λ byte. nat_l
 
 -- the file is accepted
 accepted : IsAccepted image
-unfolding first_refusal checked_refusal header_refusal headers_refusal sections_refusal section_fault overlap_refusal overlap symbols_refusal
-unfolding limits_refusal functions symbol_count word_field half_field section_at
+unfolding first_refusal checked_refusal header_refusal headers_refusal sections_refusal section_fault overlap_refusal overlap
+    symbols_refusal limits_refusal functions symbol_count word_field half_field section_at
 accepted = record { unrefused = refl; bytes = bytes_from image refl }
 
 registers_are_words : All (λ (word : ℕ). word < 2 ^ 32) first_registers
