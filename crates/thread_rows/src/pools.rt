@@ -48,7 +48,6 @@ fn are_same(alloc: Global, facts: &Facts<u32, u8>, others: &Facts<u32, u8>) -> R
 }
 
 /// A pool over a new core of the long ring.
-#[tactic(auto, using(core_rows::specs::Ring::ring_lawful))]
 fn new_pool(alloc: Global, system: &Ring) -> Result<Pool<Ring, LongRing>, GrowRefusal>
     requires { (system.now.last ≡ 9999) × (system.now.second ≡ 5000) }
 {
