@@ -64,7 +64,7 @@ module _
               subst (λ (b : Bool). MeetsEach list (sight_of image (here i).machine b)) t (ask.meets i (omega arith)));
           back = λ F G below due are is_one.
               (let time = told (stub list F.sub) is_one in
-            let keeps = ask.stubs F.sub time.0 time.1 in
+              let keeps = ask.stubs F.sub time.0 time.1 in
               subst (λ (w : ℕ). StubReturns w F (here (suc i)).machine)
               (sym (root_is image invalid first F (G ∷ below) (subst (λ (l : List Frame). ArePushed image invalid first l) are (running i).pushed)))
               (keeps i F G below within due are refl).returns);
