@@ -48,69 +48,93 @@ fn bound(
     }
 }
 
-/// Texts, and why they can't be bound to the image, if they can't.
-#[rattlefmt::skip]
-const CASES: [(&str, Option<BindRefusal>); 52] = [
-    ("", None),
-    ("root f\nroot g\nroot h\nroot 0x200001c", None),
-    ("\nroot q", Some(BindRefusal::NoName { line: 2 })),
-    ("root f\nstub q time 1", Some(BindRefusal::NoName { line: 2 })),
-    ("root q+0x4", Some(BindRefusal::NoName { line: 1 })),
-    ("root ff", Some(BindRefusal::NoName { line: 1 })),
-    ("root 0x1fffffc", Some(BindRefusal::NotCode { line: 1, addr: 0x01fffffc })),
-    ("root f+0x20", Some(BindRefusal::NotCode { line: 1, addr: 0x02000020 })),
-    ("never f+0x2", Some(BindRefusal::NotCode { line: 1, addr: 0x02000002 })),
-    ("loop f+0xffffffff repeats 1", Some(BindRefusal::NotCode { line: 1, addr: 0x01ffffff })),
-    ("never g\nnever h+0xfffffff4", Some(BindRefusal::Conflict { line: 2, other: 1 })),
-    ("never g\nnever 0x2000004", Some(BindRefusal::Conflict { line: 2, other: 1 })),
-    ("never g\nnever 0x2000008", None),
-    ("jump f to q,0x0", Some(BindRefusal::NoName { line: 1 })),
-    ("jump f to 0x0,q", Some(BindRefusal::NotCode { line: 1, addr: 0 })),
-    ("jump 0x0 to q", Some(BindRefusal::NotCode { line: 1, addr: 0 })),
-    ("jump q to 0x0", Some(BindRefusal::NoName { line: 1 })),
-    ("call f to g,h,0x8", Some(BindRefusal::NotCode { line: 1, addr: 8 })),
-    ("call f to g,g,g", None),
-    ("at q %o0 1..0", Some(BindRefusal::NoName { line: 1 })),
-    ("at 0x4 %o0 1..0", Some(BindRefusal::NotCode { line: 1, addr: 4 })),
-    ("at f %o0 1..0", Some(BindRefusal::EmptyRange { line: 1 })),
-    ("at f %o0 -1..-2", Some(BindRefusal::EmptyRange { line: 1 })),
-    ("at f %o0 5..5", None),
-    ("at f %o0 -2147483648..2147483647", None),
-    ("at f %o0 0..5\nat f %o0 1..0", Some(BindRefusal::EmptyRange { line: 2 })),
-    ("root f\nroot f+0x0", Some(BindRefusal::Conflict { line: 2, other: 1 })),
-    ("root f\nstub f time 1", Some(BindRefusal::Conflict { line: 2, other: 1 })),
-    ("stub f time 1\nroot f", Some(BindRefusal::Conflict { line: 2, other: 1 })),
-    ("stub f time 1\nstub f time 1", Some(BindRefusal::Conflict { line: 2, other: 1 })),
-    ("never f\n\nnever f", Some(BindRefusal::Conflict { line: 3, other: 1 })),
-    ("loop f repeats 1\nloop f repeats 2", Some(BindRefusal::Conflict { line: 2, other: 1 })),
-    ("jump f to g\njump f to g", Some(BindRefusal::Conflict { line: 2, other: 1 })),
-    ("jump f to g\ncall f to g", Some(BindRefusal::Conflict { line: 2, other: 1 })),
-    ("call f to g\njump f to g", Some(BindRefusal::Conflict { line: 2, other: 1 })),
-    ("call f to g\ncall f to g", Some(BindRefusal::Conflict { line: 2, other: 1 })),
-    ("at f %o0 0..5\nat f %o0 0..5", Some(BindRefusal::Conflict { line: 2, other: 1 })),
-    ("at f %o6 0..5\nat f %sp 0..5", Some(BindRefusal::Conflict { line: 2, other: 1 })),
-    ("at f %o0 0..5\nat f %o1 0..5", None),
-    ("at f %o0 0..5\nat g %o0 0..5", None),
-    ("root f\nnever f\nloop f repeats 1\njump f to f\nat f %o0 0..1", None),
-    ("root f\nroot g\n\nroot h\nroot g\nroot q", Some(BindRefusal::Conflict { line: 5, other: 2 })),
-    ("root q\nroot f\nroot f", Some(BindRefusal::NoName { line: 1 })),
-    ("at f %o0 1..0\nroot q", Some(BindRefusal::EmptyRange { line: 1 })),
-    ("never f\n# never f\n\nnever f+0x20", Some(BindRefusal::NotCode { line: 4, addr: 0x02000020 })),
-    ("call f to g,q,0x8", Some(BindRefusal::NoName { line: 1 })),
-    ("call f to g,h,f+0x3", Some(BindRefusal::NotCode { line: 1, addr: 0x02000003 })),
-    ("call 0x2000001 to g", Some(BindRefusal::NotCode { line: 1, addr: 0x02000001 })),
-    ("loop q repeats 1", Some(BindRefusal::NoName { line: 1 })),
-    ("stub 0x2000002 time 1", Some(BindRefusal::NotCode { line: 1, addr: 0x02000002 })),
-    ("stub f time 1\nstub g time 1\nstub f time 2", Some(BindRefusal::Conflict { line: 3, other: 1 })),
-    ("at f %o0 0..5\nat f %o1 0..5\nat f+0x0 %o1 9..9", Some(BindRefusal::Conflict { line: 3, other: 2 })),
-];
+fn no_name(line: u32) -> Option<BindRefusal> {
+    Some(BindRefusal::NoName { line })
+}
+
+fn not_code(line: u32, addr: u32) -> Option<BindRefusal> {
+    Some(BindRefusal::NotCode { line, addr })
+}
+
+fn empty(line: u32) -> Option<BindRefusal> {
+    Some(BindRefusal::EmptyRange { line })
+}
+
+fn conflict(line: u32, other: u32) -> Option<BindRefusal> {
+    Some(BindRefusal::Conflict { line, other })
+}
 
 #[test]
 fn refuses_the_first_that_does_not_bind(rt: HostRuntime) -> Result<(), Fail> {
     let image = image(&rt)?;
-    for (text, want) in CASES {
+    for (text, want) in [
+        ("", None),
+        ("root f\nroot g\nroot h\nroot 0x200001c", None),
+        ("\nroot q", no_name(2)),
+        ("root f\nstub q time 1", no_name(2)),
+        ("root q+0x4", no_name(1)),
+        ("root ff", no_name(1)),
+        ("root 0x1fffffc", not_code(1, 0x01fffffc)),
+        ("root f+0x20", not_code(1, 0x02000020)),
+        ("never f+0x2", not_code(1, 0x02000002)),
+        ("loop f+0xffffffff repeats 1", not_code(1, 0x01ffffff)),
+        ("never g\nnever h+0xfffffff4", conflict(2, 1)),
+        ("never g\nnever 0x2000004", conflict(2, 1)),
+        ("never g\nnever 0x2000008", None),
+        ("jump f to q,0x0", no_name(1)),
+        ("jump f to 0x0,q", not_code(1, 0)),
+        ("jump 0x0 to q", not_code(1, 0)),
+        ("jump q to 0x0", no_name(1)),
+        ("call f to g,h,0x8", not_code(1, 8)),
+        ("call f to g,g,g", None),
+        ("at q %o0 1..0", no_name(1)),
+        ("at 0x4 %o0 1..0", not_code(1, 4)),
+        ("at f %o0 1..0", empty(1)),
+        ("at f %o0 -1..-2", empty(1)),
+        ("at f %o0 5..5", None),
+        ("at f %o0 -2147483648..2147483647", None),
+        ("at f %o0 0..5\nat f %o0 1..0", empty(2)),
+        ("root f\nroot f+0x0", conflict(2, 1)),
+        ("root f\nstub f time 1", conflict(2, 1)),
+        ("stub f time 1\nroot f", conflict(2, 1)),
+        ("stub f time 1\nstub f time 1", conflict(2, 1)),
+        ("never f\n\nnever f", conflict(3, 1)),
+        ("loop f repeats 1\nloop f repeats 2", conflict(2, 1)),
+        ("jump f to g\njump f to g", conflict(2, 1)),
+        ("jump f to g\ncall f to g", conflict(2, 1)),
+        ("call f to g\njump f to g", conflict(2, 1)),
+        ("call f to g\ncall f to g", conflict(2, 1)),
+        ("at f %o0 0..5\nat f %o0 0..5", conflict(2, 1)),
+        ("at f %o6 0..5\nat f %sp 0..5", conflict(2, 1)),
+        ("at f %o0 0..5\nat f %o1 0..5", None),
+        ("at f %o0 0..5\nat g %o0 0..5", None),
+        (
+            "root f\nnever f\nloop f repeats 1\njump f to f\nat f %o0 0..1",
+            None,
+        ),
+        ("root f\nroot g\n\nroot h\nroot g\nroot q", conflict(5, 2)),
+        ("root q\nroot f\nroot f", no_name(1)),
+        ("at f %o0 1..0\nroot q", empty(1)),
+        (
+            "never f\n# never f\n\nnever f+0x20",
+            not_code(4, 0x02000020),
+        ),
+        ("call f to g,q,0x8", no_name(1)),
+        ("call f to g,h,f+0x3", not_code(1, 0x02000003)),
+        ("call 0x2000001 to g", not_code(1, 0x02000001)),
+        ("loop q repeats 1", no_name(1)),
+        ("stub 0x2000002 time 1", not_code(1, 0x02000002)),
+        (
+            "stub f time 1\nstub g time 1\nstub f time 2",
+            conflict(3, 1),
+        ),
+        (
+            "at f %o0 0..5\nat f %o1 0..5\nat f+0x0 %o1 9..9",
+            conflict(3, 2),
+        ),
+    ] {
         let got = bound(&rt, &image, text.as_bytes()).err();
-        assert!(rt; got == want, "{text:?}");
+        assert_eq!(rt; got, want, "{text:?}");
     }
     Ok(())
 }
