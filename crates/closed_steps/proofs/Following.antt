@@ -1,7 +1,7 @@
 -- Runs follow the facts of a closed state.
-use Rattle.std.proofs.Common.{◌≡◌, ℕ, zero, suc, ◌+◌, ◌%◌, ◌^◌, ◌<◌, ◌≤◌, Bool, true, false, List, [], ◌∷◌, length, Option, Some, None, Contains, All, refl, sym, ap, subst, ◌∙◌, arith}
+use Rattle.std.proofs.Common.{◌≡◌, ℕ, zero, suc, ◌^◌, ◌<◌, false, List, [], ◌∷◌, length, Option, Some, None, Contains, refl, sym, ap, subst, ◌∙◌, arith}
 use Rattle.std.specs.Prelude.{slice_index_or, is_some}
-use Rattle.std.specs.List.{AllPairs, cons_option, filter_map}
+use Rattle.std.specs.List.{cons_option, filter_map}
 use Rattle.std.specs.Option.{option_and_then}
 use Rattle.abs_state.specs.State.{entry_state}
 use Rattle.abs_state.specs.declared.key.Key.TheVariants as key
@@ -9,21 +9,20 @@ use Rattle.abs_state.specs.declared.key.Next.TheVariants.{At}
 use Rattle.abs_state.specs.declared.key.Place.{Place}
 use Rattle.assert_bind.proofs.AboutLemmas.{finds_itself}
 use Rattle.assert_bind.proofs.StubLemmas.{stubs_those}
-use Rattle.assert_bind.specs.Binding.{about, root_in, roots, stub, stub_in, stubs, time_in}
-use Rattle.assert_bind.specs.Index.{AreApart, IsSound}
+use Rattle.assert_bind.specs.Binding.{about, root_in, roots, stub_in, time_in}
+use Rattle.assert_bind.specs.Index.{IsSound}
 use Rattle.assert_bind.specs.Subject.{subject_of}
 use Rattle.assert_bind.specs.declared.body.BoundAssertion.{BoundAssertion}
 use Rattle.assert_bind.specs.declared.body.BoundBody.{BoundBody}
 use Rattle.assert_bind.specs.declared.body.BoundBody.TheVariants as body
 use Rattle.assert_bind.specs.declared.subject.Subject.{Subject}
 use Rattle.assert_bind.specs.declared.subject.Subject.TheVariants as of
-use Rattle.flow_system.specs.State.{IsClosed}
-use Rattle.sparc_machine.specs.Frame.{BeginsAt, Frame, Stays, root_frame}
+use Rattle.sparc_machine.specs.Frame.{Stays, root_frame}
 use Rattle.sparc_machine.specs.declared.machine.Machine.{Machine}
 use Rattle.sparc_runs.proofs.Bounds.{operands_words}
 use Rattle.sparc_runs.proofs.Levels.{depths}
 use Rattle.sparc_runs.proofs.MeetLaws.{sights_meet}
-use Rattle.sparc_runs.specs.Meets.{Heads, IsMet, KeepsStubs, Meets}
+use Rattle.sparc_runs.specs.Meets.{Heads, IsMet, Meets}
 use Rattle.sparc_runs.specs.Window.{depth_from}
 use Rattle.stack_laws.proofs.Runs.{runs_followed}
 use Rattle.stack_laws.specs.Followed.{KeepsAllStubs}
@@ -34,14 +33,12 @@ use Rattle.state_covers.specs.Covers.{Covers}
 use Rattle.transfer_acts.specs.Program.{program_of}
 use Rattle.transfer_rules.proofs.Closing.{closed_starts}
 use Rattle.transfer_rules.specs.Fact.{state_in}
-use Rattle.transfer_rules.specs.Give.{Facts, entry_of}
-use Rattle.transfer_rules.specs.Lawful.{rules_of}
+use Rattle.transfer_rules.specs.Give.{entry_of}
 use Rattle.transfer_values.specs.Family.{family}
 use Rattle.transfer_values.specs.Resolve.{widest}
 use Rattle.closed_steps.proofs.Covering.{closed_states_cover_steps}
 use Rattle.closed_steps.proofs.Leading.{same_place}
-use Rattle.closed_steps.specs.Graph.{IsBound}
-use Rattle.closed_steps.specs.Runs.{IsRun, RunsFollowClosedStates}
+use Rattle.closed_steps.specs.Runs.{RunsFollowClosedStates}
 
 -- what is left of a list comes from one of it
 record IsFrom {A : Type 0} (give : A → Option ℕ) (list : List A) (e : ℕ) : Type 0 where

@@ -1,5 +1,5 @@
 -- Runs over the facts of a closed state.
-use Rattle.std.specs.Prelude.{◌≡◌, ℕ, ◌<◌, ◌≤◌, Bool, List, length, Contains}
+use Rattle.std.specs.Prelude.{ℕ, ◌≤◌, Bool, List, length, Contains}
 use Rattle.assert_bind.specs.Binding.{roots}
 use Rattle.assert_bind.specs.declared.body.BoundAssertion.{BoundAssertion}
 use Rattle.flow_system.specs.State.{IsClosed}
