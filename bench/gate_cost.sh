@@ -1,94 +1,123 @@
 #!/bin/sh
-# What the gate costs, crate by crate: asks rt for each crate's proof from nothing and for its must-fail edits, in a
-# copy of the repository, lowest crates first, and prints a table of processor seconds (user and system, of all
-# processes together), the sums, and the functions at which the checks stood longest.
+# What the gate costs, crate by crate: runs `rt ci` and watches the processes that it starts, or watches a gate that runs
+# already, and prints a table of processor seconds (user and system) for each crate: its proof, its tests, its wrong bodies.
 #
-#     bench/gate_cost.sh [CRATE..]
+#     bench/gate_cost.sh [CRATE..]        runs `rt ci CRATE..` (of all crates, where none is named); its log goes to
+#                                         standard error
+#     bench/gate_cost.sh --of PID         watches the `rt ci` with this process number until it ends
+#     bench/gate_cost.sh --log FILE       makes no table of times: from a log of `rt ci` alone, which tells none, it says
+#                                         which crates were proved anew, their functions, their tests and their edits
 #
-# Without names, all crates of crates.txt. A crate of tests alone has its cost in the column of tests; a library with
-# tests inside has both proofs in the column of the proof. A log of `rt ci` tells no times, so it can't be read for
-# them. Nothing else should run meanwhile.
+# What an earlier run kept costs nothing and has no row: for the cost of all, take a machine on which nothing is kept, or
+# add --anew. Processor seconds don't depend on what else runs, as wall seconds do; the processors should be few enough
+# busy that they don't slow each other all the same.
 set -eu
 cd "$(dirname "$0")/.."
-work=$(mktemp -d)
-trap 'rm -rf "$work"' EXIT
-git archive HEAD | tar -x -C "$work"
-cd "$work"
-python3 - "$@" <<'END'
-import os, re, resource, subprocess, sys, time
+exec python3 - "$@" <<'END'
+import os, re, subprocess, sys, time
 
-crates = {}
-for line in open("crates.txt"):
-    line = line.split("#")[0]
-    if ":" in line:
-        name, below = line.split(":", 1)
-        crates[name.split()[0]] = below.split()
+TICK = os.sysconf("SC_CLK_TCK")
 
-order = []
-def place(name):
-    if name in crates and name not in order:
-        for below in crates[name]:
-            place(below)
-        order.append(name)
-for name in crates:
-    place(name)
-wanted = sys.argv[1:] or order
+def processes():
+    """Each process: its parent, the processor seconds that it spent itself, and its command line."""
+    found = {}
+    for name in os.listdir("/proc"):
+        if not name.isdigit():
+            continue
+        try:
+            stat = open("/proc/%s/stat" % name).read()
+            words = open("/proc/%s/cmdline" % name).read().split("\0")
+        except OSError:
+            continue
+        fields = stat[stat.rindex(")") + 2:].split()
+        found[int(name)] = (int(fields[1]), (int(fields[11]) + int(fields[12])) / TICK, words)
+    return found
 
-def spent(words, folder):
-    """The processor seconds of a command and of all that it started, its status, and its lines with their times."""
-    before = resource.getrusage(resource.RUSAGE_CHILDREN)
-    lines = []
-    run = subprocess.Popen(words, cwd=folder, stdout=subprocess.PIPE, stderr=subprocess.STDOUT, text=True)
-    for line in run.stdout:
-        lines.append((time.perf_counter(), line.rstrip()))
-    status = run.wait()
-    after = resource.getrusage(resource.RUSAGE_CHILDREN)
-    return after.ru_utime + after.ru_stime - before.ru_utime - before.ru_stime, status, lines
+def below(found, root):
+    """The processes that a process started, and those that these started."""
+    inside = {root}
+    grew = True
+    while grew:
+        more = {p for p, (parent, _, _) in found.items() if parent in inside and p not in inside}
+        grew = bool(more)
+        inside |= more
+    return inside - {root}
 
-def is_of_tests(name):
-    """Whether the crate has nothing but tests: each module of its root is one of tests."""
-    root = os.path.join("crates", name, "src", "lib.rt")
-    if not os.path.exists(root):
-        return False
-    items = [l.strip() for l in open(root) if l.strip() and not l.startswith(("//", "#!"))]
-    return all(l == "#[cfg(test)]" or l.startswith("mod ") for l in items) and "#[cfg(test)]" in items
+def kind_of(pid, words):
+    """The crate that a process of the prover works on, and for what; None for other processes."""
+    if "--crate-name" not in words:
+        return None
+    crate = words[words.index("--crate-name") + 1]
+    try:
+        folder = os.readlink("/proc/%d/cwd" % pid)
+    except OSError:
+        return None
+    if "/rt-edit-" in folder:
+        return crate, 2
+    return crate, 1 if "--test" in words else 0
 
-def edits_of(name):
-    folder = os.path.join("crates", name, "must-fail")
-    return len(os.listdir(folder)) if os.path.isdir(folder) else 0
+def watch(root, over):
+    """The greatest processor seconds seen of each process below this one, until it is over."""
+    spent = {}
+    while not over():
+        found = processes()
+        for pid in below(found, root):
+            seconds, words = found[pid][1:]
+            kind = spent[pid][0] if pid in spent else kind_of(pid, words)
+            if kind:
+                spent[pid] = (kind, seconds)
+        time.sleep(0.5)
+    return spent
 
-slow, rows, sums = [], [], [0.0, 0.0, 0.0]
-for name in order:
-    if name not in wanted:
-        continue
-    folder = os.path.join("crates", name)
-    proof, status, lines = spent(["rt", "verdict"], folder)
-    for (begin, _), (end, line) in zip(lines, lines[1:]):
-        told = re.match(r"checked (\S+), \d+ of \d+", line)
-        if told:
-            slow.append((end - begin, told.group(1)))
-    tests = 0.0
-    if is_of_tests(name):
-        proof, tests = 0.0, proof
-    edits = 0.0
-    if edits_of(name):
-        edits, refused, _ = spent(["rt", "must-fail", "--anew", name], ".")
-        status = status or refused
-    rows.append((name, proof, tests, edits, edits_of(name), "" if status == 0 else "status %d" % status))
-    for i, seconds in enumerate((proof, tests, edits)):
-        sums[i] += seconds
-    print("%-16s proof %7.0f tests %7.0f edits %7.0f" % (name, proof, tests, edits), file=sys.stderr, flush=True)
+def edits_of(crate):
+    folder = os.path.join("crates", crate, "must-fail")
+    return len([f for f in os.listdir(folder) if f.endswith(".edit")]) if os.path.isdir(folder) else 0
 
-print("processors: %d" % os.cpu_count())
-print("| Crate | Proof | Tests | Edits | Their number | |")
-print("|---|---|---|---|---|---|")
-for name, proof, tests, edits, count, status in rows:
-    print("| `%s` | %.0f | %.0f | %.0f | %d | %s |" % (name, proof, tests, edits, count, status))
-print("| all | %.0f | %.0f | %.0f | %d | %.0f in all |" % (*sums, sum(r[4] for r in rows), sum(sums)))
-if slow:
+def tests_of(crate):
+    count = 0
+    for folder, _, files in os.walk(os.path.join("crates", crate, "src")):
+        count += sum(open(os.path.join(folder, f)).read().count("#[test]") for f in files if f.endswith(".rt"))
+    return count
+
+def table(spent):
+    rows = {}
+    for (crate, column), seconds in spent.values():
+        rows.setdefault(crate, [0.0, 0.0, 0.0])[column] += seconds
+    print("processors: %d" % os.cpu_count())
     print()
-    print("| Function | Seconds |")
-    print("|---|---|")
-    for seconds, name in sorted(slow, reverse=True)[:10]:
-        print("| `%s` | %.1f |" % (name, seconds))
+    print("| Crate | Proof | Tests | Edits | All | Number of tests | Number of edits |")
+    print("|---|---|---|---|---|---|---|")
+    for crate, row in sorted(rows.items(), key=lambda r: -sum(r[1])):
+        print("| `%s` | %.0f | %.0f | %.0f | %.0f | %d | %d |" % (crate, *row, sum(row), tests_of(crate), edits_of(crate)))
+    sums = [sum(row[i] for row in rows.values()) for i in range(3)]
+    print("| all | %.0f | %.0f | %.0f | %.0f | | |" % (*sums, sum(sums)))
+
+def read_log(path):
+    crate, functions, proved = None, {}, []
+    for line in open(path):
+        begun = re.match(r"== (\S+)", line)
+        told = re.match(r"logic=proved (?:tests=\d+ )?functions=(\d+)", line)
+        done = re.match(r"rt: (\S+) proved", line)
+        if begun:
+            crate = begun.group(1)
+        elif told and crate:
+            functions[crate] = int(told.group(1))
+        elif done:
+            proved.append(done.group(1))
+    print("| Crate | Functions | Tests | Edits |")
+    print("|---|---|---|---|")
+    for name in proved:
+        print("| `%s` | %d | %d | %d |" % (name, functions.get(name, 0), tests_of(name), edits_of(name)))
+
+words = sys.argv[1:]
+if words[:1] == ["--log"]:
+    read_log(words[1])
+elif words[:1] == ["--of"]:
+    root = int(words[1])
+    table(watch(root, lambda: not os.path.exists("/proc/%d" % root)))
+else:
+    gate = subprocess.Popen(["rt", "ci"] + words, stdout=sys.stderr.fileno(), stderr=sys.stderr.fileno())
+    spent = watch(gate.pid, lambda: gate.poll() is not None)
+    table(spent)
+    sys.exit(gate.returncode)
 END

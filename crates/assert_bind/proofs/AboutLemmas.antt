@@ -1,5 +1,6 @@
 -- The assertion of a list about a subject.
-use Rattle.std.proofs.Common.{◌≡◌, ℕ, zero, suc, ◌+◌, ◌<◌, Bool, true, false, cond, List, [], ◌∷◌, ◌++◌, length, get_or, Some, None, All, refl, sym, ◌∙◌, ap, subst, arith, length-append}
+use Rattle.std.proofs.Common.{◌≡◌, ℕ, zero, suc, ◌+◌, ◌<◌, Bool, true, false, cond, List, [], ◌∷◌, ◌++◌, length, get_or}
+use Rattle.std.proofs.Common.{Some, None, All, refl, sym, ◌∙◌, ap, subst, arith, length-append}
 use Rattle.std.specs.List.{AllPairs}
 use Rattle.std.proofs.Math.ListN.{get_or-append}
 use Rattle.std.proofs.Math.Seq.{get_or-append_seam}
@@ -28,7 +29,8 @@ pub record IsAbout (list : List BoundAssertion) (s : Subject) (x : BoundAssertio
   pub there : get_or list place x ≡ x
   pub same : is_same (subject_of x.body) s ≡ true
 
-found_at : (y : BoundAssertion) (xs : List BoundAssertion) (s : Subject) (x : BoundAssertion) (same : Bool) → is_same (subject_of y.body) s ≡ same → (about xs s ≡ Some x → IsAbout xs s x)
+found_at : (y : BoundAssertion) (xs : List BoundAssertion) (s : Subject) (x : BoundAssertion) (same : Bool)
+    → is_same (subject_of y.body) s ≡ same → (about xs s ≡ Some x → IsAbout xs s x)
     → cond same (Some y) (about xs s) ≡ Some x → IsAbout (y ∷ xs) s x
 found_at y xs s x true is each e =
     let equal : y ≡ x = cc in
@@ -44,7 +46,8 @@ pub apart_tail : (x : BoundAssertion) (xs : List BoundAssertion) → AllPairs Ar
 apart_tail x xs apart = λ i j d less within. apart (suc i) (suc j) d (omega (arith, less)) (omega (arith, within))
 
 -- of each assertion of a list it is the one that is found
-pub finds_itself : (list : List BoundAssertion) (k : ℕ) (d : BoundAssertion) → AllPairs AreApart list → k < length list → about list (subject_of (get_or list k d).body) ≡ Some (get_or list k d)
+pub finds_itself : (list : List BoundAssertion) (k : ℕ) (d : BoundAssertion) → AllPairs AreApart list → k < length list
+    → about list (subject_of (get_or list k d).body) ≡ Some (get_or list k d)
 finds_itself [] k d apart within = absurd (omega (arith, within))
 finds_itself (x ∷ xs) zero d apart within = ap (λ (b : Bool). cond b (Some x) (about xs (subject_of x.body))) (same_itself (subject_of x.body))
 finds_itself (x ∷ xs) (suc k) d apart within =
@@ -53,7 +56,8 @@ finds_itself (x ∷ xs) (suc k) d apart within =
     ∙ finds_itself xs k d (apart_tail x xs apart) less
 
 -- no assertion before another one of such a list speaks of the same
-pub none_before : (earlier : List BoundAssertion) (x : BoundAssertion) (later : List BoundAssertion) → AllPairs AreApart (earlier ++ x ∷ later) → about earlier (subject_of x.body) ≡ None
+pub none_before : (earlier : List BoundAssertion) (x : BoundAssertion) (later : List BoundAssertion)
+    → AllPairs AreApart (earlier ++ x ∷ later) → about earlier (subject_of x.body) ≡ None
 none_before earlier x later apart = about_none earlier (subject_of x.body) (λ i d less. at i d less)
   where
     at : (i : ℕ) (d : BoundAssertion) → i < length earlier → IsElsewhere (subject_of x.body) (get_or earlier i d)
@@ -63,4 +67,5 @@ none_before earlier x later apart = about_none earlier (subject_of x.body) (λ i
         let first : get_or (earlier ++ x ∷ later) i d ≡ get_or earlier i d = get_or-append earlier (x ∷ later) d i less in
         let second : get_or (earlier ++ x ∷ later) (length earlier) d ≡ x = get_or-append_seam earlier x later d in
         subst (λ (y : BoundAssertion). is_same (subject_of y.body) (subject_of x.body) ≡ false) first
-        (subst (λ (y : BoundAssertion). is_same (subject_of (get_or (earlier ++ x ∷ later) i d).body) (subject_of y.body) ≡ false) second (apart i (length earlier) d less within))
+        (subst (λ (y : BoundAssertion). is_same (subject_of (get_or (earlier ++ x ∷ later) i d).body) (subject_of y.body) ≡ false)
+        second (apart i (length earlier) d less within))

@@ -1,5 +1,6 @@
 -- The index of a list, with one more assertion.
-use Rattle.std.proofs.Common.{◌≡◌, ℕ, zero, suc, ◌+◌, ◌<◌, Bool, true, false, cond, List, [], ◌∷◌, ◌++◌, length, Option, Some, None, refl, sym, ◌∙◌, ap, subst, arith, length-append}
+use Rattle.std.proofs.Common.{◌≡◌, ℕ, zero, suc, ◌+◌, ◌<◌, Bool, true, false, cond, List, [], ◌∷◌, ◌++◌, length, Option}
+use Rattle.std.proofs.Common.{Some, None, refl, sym, ◌∙◌, ap, subst, arith, length-append}
 use Rattle.std.specs.BTreeMap.{BTreeMap, get, is_at, Updates}
 use Rattle.std.specs.List.{slice_get}
 use Rattle.std.specs.Option.{option_or}
@@ -25,22 +26,27 @@ get_last [] x = refl
 get_last (y ∷ ys) x = get_last ys x
 
 -- the assertion about a subject where there is one more
-about_more : (list : List BoundAssertion) (x : BoundAssertion) (q : Subject) → about (list ++ x ∷ []) q ≡ option_or (about list q) (cond (is_same (subject_of x.body) q) (Some x) None)
+about_more : (list : List BoundAssertion) (x : BoundAssertion) (q : Subject)
+    → about (list ++ x ∷ []) q ≡ option_or (about list q) (cond (is_same (subject_of x.body) q) (Some x) None)
 about_more list x q = find-append (speaks_of q) list (x ∷ [])
 
 about_new : (list : List BoundAssertion) (x : BoundAssertion) → about list (subject_of x.body) ≡ None → about (list ++ x ∷ []) (subject_of x.body) ≡ Some x
-about_new list x none = about_more list x (subject_of x.body) ∙ ap (λ o. option_or o (cond (is_same (subject_of x.body) (subject_of x.body)) (Some x) None)) none ∙ ap (λ b. cond b (Some x) None) (same_itself (subject_of x.body))
+about_new list x none = about_more list x (subject_of x.body)
+    ∙ ap (λ o. option_or o (cond (is_same (subject_of x.body) (subject_of x.body)) (Some x) None)) none
+    ∙ ap (λ b. cond b (Some x) None) (same_itself (subject_of x.body))
 
 about_other : (list : List BoundAssertion) (x : BoundAssertion) (q : Subject) → is_same (subject_of x.body) q ≡ false → about (list ++ x ∷ []) q ≡ about list q
 about_other list x q other = about_more list x q ∙ ap (λ b. option_or (about list q) (cond b (Some x) None)) other ∙ or_none (about list q)
 
-place_new : (list : List BoundAssertion) (x : BoundAssertion) (q : Subject) → subject_of x.body ≡ q → about list (subject_of x.body) ≡ None → IsPlace (list ++ x ∷ []) q (Some (length list))
+place_new : (list : List BoundAssertion) (x : BoundAssertion) (q : Subject) → subject_of x.body ≡ q
+    → about list (subject_of x.body) ≡ None → IsPlace (list ++ x ∷ []) q (Some (length list))
 place_new list x q is none =
     let longer : length (list ++ x ∷ []) ≡ length list + 1 = length-append list (x ∷ []) in
     let less : length list < length (list ++ x ∷ []) = omega arith in
     (less, subst (λ (s : Subject). about (list ++ x ∷ []) s ≡ slice_get (list ++ x ∷ []) (length list)) is (about_new list x none ∙ sym (get_last list x)))
 
-place_kept : (list : List BoundAssertion) (x : BoundAssertion) (q : Subject) (o : Option ℕ) → is_same (subject_of x.body) q ≡ false → IsPlace list q o → IsPlace (list ++ x ∷ []) q o
+place_kept : (list : List BoundAssertion) (x : BoundAssertion) (q : Subject) (o : Option ℕ) → is_same (subject_of x.body) q ≡ false
+    → IsPlace list q o → IsPlace (list ++ x ∷ []) q o
 place_kept list x q None other place = about_other list x q other ∙ place
 place_kept list x q (Some k) other place =
     let longer : length (list ++ x ∷ []) ≡ length list + 1 = length-append list (x ∷ []) in

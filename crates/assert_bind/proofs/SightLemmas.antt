@@ -15,7 +15,8 @@ use Rattle.assert_bind.proofs.AboutLemmas.{found, finds_itself}
 use Rattle.assert_bind.proofs.SubjectLemmas.{and_both}
 
 -- the one that is found is met
-met_about : (list : List BoundAssertion) (sight : Sight) (s : Subject) (x : BoundAssertion) → MeetsEach list sight → about list s ≡ Some x → (is_same (subject_of x.body) s ≡ true) × IsMetBy x.body sight
+met_about : (list : List BoundAssertion) (sight : Sight) (s : Subject) (x : BoundAssertion) → MeetsEach list sight
+    → about list s ≡ Some x → (is_same (subject_of x.body) s ≡ true) × IsMetBy x.body sight
 met_about list sight s x meets is =
     let a = found list s x is in
     (a.same, subst (λ (y : BoundAssertion). IsMetBy y.body sight) a.there (meets a.place x a.within))
@@ -33,7 +34,8 @@ not_reached (body.Stub entry time) sight same met = false≢true same
 abbrev InRange : Sight → ℕ → Option (ℤ × ℤ) → Type 0
 InRange sight reg ends = IfSome ends (λ (lo, hi). IsIn lo hi (sight.register reg))
 
-in_range : (says : BoundBody) (sight : Sight) (reg : ℕ) → is_same (subject_of says) (of.Word sight.pc reg) ≡ true → IsMetBy says sight → InRange sight reg (range_in says)
+in_range : (says : BoundBody) (sight : Sight) (reg : ℕ) → is_same (subject_of says) (of.Word sight.pc reg) ≡ true
+    → IsMetBy says sight → InRange sight reg (range_in says)
 in_range (body.Root entry) sight reg same met = absurd (false≢true same)
 in_range (body.Never pc) sight reg same met = absurd (false≢true same)
 in_range (body.At pc r lo hi) sight reg same met =
@@ -67,7 +69,8 @@ allowed list sight meets = record {
     reached None is = refl
     reached (Some x) is = let m = met_about list sight (of.Reach sight.pc) x meets is in absurd (not_reached x.body sight m.0 m.1)
 
-    ranged : (reg : ℕ) (x : Option BoundAssertion) → about list (of.Word sight.pc reg) ≡ x → InRange sight reg (option_and_then (λ assertion. range_in assertion.body) x)
+    ranged : (reg : ℕ) (x : Option BoundAssertion) → about list (of.Word sight.pc reg) ≡ x
+        → InRange sight reg (option_and_then (λ assertion. range_in assertion.body) x)
     ranged reg None is = tt
     ranged reg (Some x) is = let m = met_about list sight (of.Word sight.pc reg) x meets is in in_range x.body sight reg m.0 m.1
 
@@ -76,18 +79,26 @@ allowed list sight meets = record {
     to (Some x) is = let m = met_about list sight (of.Targets sight.pc) x meets is in goes_to x.body sight m.0 m.1
 
 -- where the answers are kept to, an assertion that is found is met
-met_by : (list : List BoundAssertion) (sight : Sight) (line : ℕ) (says : BoundBody) → IsAllowed list sight → about list (subject_of says) ≡ Some (record { line = line; body = says }) → IsMetBy says sight
+met_by : (list : List BoundAssertion) (sight : Sight) (line : ℕ) (says : BoundBody) → IsAllowed list sight
+    → about list (subject_of says) ≡ Some (record { line = line; body = says }) → IsMetBy says sight
 met_by list sight line (body.Root entry) allowed is = tt
 met_by list sight line (body.Never pc) allowed is = λ at.
     false≢true (sym allowed.reached ∙ ap (λ (a : ℕ). never list a) at ∙ ap (λ (o : Option BoundAssertion). is_some o) is)
 met_by list sight line (body.At pc reg lo hi) allowed is = λ at.
-    subst (InRange sight reg) (ap (λ (a : ℕ). range list a reg) at ∙ ap (λ (o : Option BoundAssertion). option_and_then (λ assertion. range_in assertion.body) o) is) (allowed.ranged reg)
+    subst (InRange sight reg) (ap (λ (a : ℕ). range list a reg) at
+    ∙ ap (λ (o : Option BoundAssertion). option_and_then (λ assertion. range_in assertion.body) o) is) (allowed.ranged reg)
 met_by list sight line (body.Jump pc to) allowed is = λ at.
-    subst (GoesTo sight) (ap (λ (a : ℕ). listed list a) at ∙ ap (λ (o : Option BoundAssertion). option_and_then (λ assertion. targets_in assertion.body) o) is) allowed.listed
+    subst (GoesTo sight) (ap (λ (a : ℕ). listed list a) at ∙ ap
+    (λ (o : Option BoundAssertion). option_and_then (λ assertion. targets_in assertion.body) o) is) allowed.listed
 met_by list sight line (body.CallTo pc to) allowed is = λ at.
-    subst (GoesTo sight) (ap (λ (a : ℕ). listed list a) at ∙ ap (λ (o : Option BoundAssertion). option_and_then (λ assertion. targets_in assertion.body) o) is) allowed.listed
+    subst (GoesTo sight) (ap (λ (a : ℕ). listed list a) at ∙ ap
+    (λ (o : Option BoundAssertion). option_and_then (λ assertion. targets_in assertion.body) o) is) allowed.listed
 met_by list sight line (body.Loop pc count) allowed is = tt
 met_by list sight line (body.Stub entry time) allowed is = tt
 
 pub answers_all : AnswersAreAll
-answers_all list sight sound = (allowed list sight, λ keeps k d within. met_by list sight (get_or list k d).line (get_or list k d).body keeps (finds_itself list k d sound.apart within))
+answers_all list sight sound = (
+  allowed list sight,
+  λ keeps k d within. met_by list sight (get_or list k d).line
+      (get_or list k d).body keeps (finds_itself list k d sound.apart within),
+)

@@ -1,5 +1,6 @@
 -- The stubs that a binding lists are those that have a time, each once.
-use Rattle.std.proofs.Common.{◌≡◌, ◌≢◌, ℕ, zero, suc, ◌<◌, true, false, List, [], ◌∷◌, length, get_or, Option, Some, None, All, Contains, is_some, refl, sym, ◌∙◌, ap, subst, arith}
+use Rattle.std.proofs.Common.{◌≡◌, ◌≢◌, ℕ, zero, suc, ◌<◌, true, false, List, [], ◌∷◌, length, get_or, Option, Some}
+use Rattle.std.proofs.Common.{None, All, Contains, is_some, refl, sym, ◌∙◌, ap, subst, arith}
 use Rattle.std.specs.List.{AllPairs, cons_option}
 use Rattle.std.specs.Option.{IsSome, option_and_then}
 use Rattle.std.proofs.lemmas.Bool.{eqb-true, false≢true}
@@ -32,9 +33,16 @@ record IsFrom (list : List BoundAssertion) (entry : ℕ) : Type 0 where
 further : (x : BoundAssertion) (xs : List BoundAssertion) (entry : ℕ) → IsFrom xs entry → IsFrom (x ∷ xs) entry
 further x xs entry f = record { place = suc f.place; item = f.item; within = omega (arith, f.within); there = f.there; gives = f.gives }
 
-from_front : (x : BoundAssertion) (xs : List BoundAssertion) (entry : ℕ) (first : Option ℕ) → entry_in x ≡ first → (Contains (stubs xs) entry → IsFrom xs entry) → Contains (cons_option first (stubs xs)) entry → IsFrom (x ∷ xs) entry
+from_front : (x : BoundAssertion) (xs : List BoundAssertion) (entry : ℕ) (first : Option ℕ) → entry_in x ≡ first
+    → (Contains (stubs xs) entry → IsFrom xs entry) → Contains (cons_option first (stubs xs)) entry → IsFrom (x ∷ xs) entry
 from_front x xs entry None is each c = further x xs entry (each c)
-from_front x xs entry (Some a) is each (zero, less, same) = record { place = 0; item = x; within = omega arith; there = refl; gives = is ∙ ap (λ (e : ℕ). Some e) same }
+from_front x xs entry (Some a) is each (zero, less, same) = record {
+  place = 0;
+  item = x;
+  within = omega arith;
+  there = refl;
+  gives = is ∙ ap (λ (e : ℕ). Some e) same;
+}
 from_front x xs entry (Some a) is each (suc k, less, same) = further x xs entry (each (k, omega (arith, less), same))
 
 -- an entry that is listed is that of a stub
@@ -47,7 +55,8 @@ behind_first None l entry c = c
 behind_first (Some a) l entry (k, less, same) = (suc k, omega (arith, less), same)
 
 -- and the entry of a stub is listed
-is_listed : (list : List BoundAssertion) (k : ℕ) (d : BoundAssertion) (entry : ℕ) → k < length list → entry_in (get_or list k d) ≡ Some entry → Contains (stubs list) entry
+is_listed : (list : List BoundAssertion) (k : ℕ) (d : BoundAssertion) (entry : ℕ) → k < length list
+    → entry_in (get_or list k d) ≡ Some entry → Contains (stubs list) entry
 is_listed [] k d entry less is = absurd (omega (arith, less))
 is_listed (x ∷ xs) zero d entry less is =
     subst (λ (first : Option ℕ). Contains (cons_option first (stubs xs)) entry) (sym is) (0, omega arith, refl)
@@ -88,11 +97,14 @@ time_of assertion = time_in assertion.body
 
 has_time : (list : List BoundAssertion) (entry : ℕ) → AllPairs AreApart list → IsFrom list entry → IsSome (stub list entry)
 has_time list entry apart f =
-    let at : about list (subject_of f.item.body) ≡ Some f.item = subst (λ (x : BoundAssertion). about list (subject_of x.body) ≡ Some x) f.there (finds_itself list f.place f.item apart f.within) in
+    let at : about list (subject_of f.item.body) ≡ Some f.item =
+    subst (λ (x : BoundAssertion). about list (subject_of x.body) ≡ Some x) f.there
+    (finds_itself list f.place f.item apart f.within) in
     let is : about list (of.Entry entry) ≡ Some f.item = subst (λ (s : Subject). about list s ≡ Some f.item) (stub_subject f.item.body entry f.gives) at in
     ap (λ (o : Option BoundAssertion). is_some (option_and_then time_of o)) is ∙ stub_time f.item.body entry f.gives
 
-is_timed : (list : List BoundAssertion) (entry : ℕ) (x : Option BoundAssertion) → about list (of.Entry entry) ≡ x → IsSome (option_and_then time_of x) → Contains (stubs list) entry
+is_timed : (list : List BoundAssertion) (entry : ℕ) (x : Option BoundAssertion) → about list (of.Entry entry) ≡ x
+    → IsSome (option_and_then time_of x) → Contains (stubs list) entry
 is_timed list entry None is time = absurd (false≢true time)
 is_timed list entry (Some x) is time =
     let a = found list (of.Entry entry) x is in
@@ -104,11 +116,15 @@ differs x xs a apart is k d less = λ same.
     let f = is_from xs (get_or (stubs xs) k d) (Contains-get_or (stubs xs) k d less) in
     let one : subject_of x.body ≡ of.Entry a = stub_subject x.body a is in
     let two : subject_of f.item.body ≡ of.Entry a = stub_subject f.item.body (get_or (stubs xs) k d) f.gives ∙ ap (λ (e : ℕ). of.Entry e) (sym same) in
-    let both : is_same (subject_of x.body) (subject_of f.item.body) ≡ true = ap (λ (s : Subject). is_same s (subject_of f.item.body)) (one ∙ sym two) ∙ same_itself (subject_of f.item.body) in
-    let other : is_same (subject_of x.body) (subject_of f.item.body) ≡ false = subst (λ (y : BoundAssertion). is_same (subject_of x.body) (subject_of y.body) ≡ false) f.there (apart 0 (suc f.place) f.item (omega arith) (omega (arith, f.within))) in
+    let both : is_same (subject_of x.body) (subject_of f.item.body) ≡ true =
+    ap (λ (s : Subject). is_same s (subject_of f.item.body)) (one ∙ sym two) ∙ same_itself (subject_of f.item.body) in
+    let other : is_same (subject_of x.body) (subject_of f.item.body) ≡ false =
+    subst (λ (y : BoundAssertion). is_same (subject_of x.body) (subject_of y.body) ≡ false) f.there
+    (apart 0 (suc f.place) f.item (omega arith) (omega (arith, f.within))) in
     false≢true (sym other ∙ both)
 
-once_front : (x : BoundAssertion) (xs : List BoundAssertion) (first : Option ℕ) → AllPairs AreApart (x ∷ xs) → entry_in x ≡ first → AllPairs (λ y z. y ≢ z) (stubs xs) → AllPairs (λ y z. y ≢ z) (cons_option first (stubs xs))
+once_front : (x : BoundAssertion) (xs : List BoundAssertion) (first : Option ℕ) → AllPairs AreApart (x ∷ xs) → entry_in x ≡ first
+    → AllPairs (λ y z. y ≢ z) (stubs xs) → AllPairs (λ y z. y ≢ z) (cons_option first (stubs xs))
 once_front x xs None apart is rest = rest
 once_front x xs (Some a) apart is rest = AllPairs-cons (λ y z. y ≢ z) a (stubs xs) (differs x xs a apart is) rest
 

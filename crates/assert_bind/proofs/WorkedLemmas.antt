@@ -13,7 +13,9 @@ other : {P : Type 0} (a b : ℕ) → (a == b) ≡ false → a ≡ b → P
 other a b differ same = absurd (false≢true (sym differ ∙ eq-eqb a b same))
 
 -- one assertion after the other is met
-met_each : (sight : Sight) → IsMetBy (body.At 4096 8 (neg_ℤ (pos 3)) (pos 5)) sight → IsMetBy (body.Jump 4100 (4096 ∷ 4112 ∷ [])) sight → IsMetBy (body.Never 4104) sight → IsMetBy (body.CallTo 4112 (8192 ∷ [])) sight
+met_each : (sight : Sight) → IsMetBy (body.At 4096 8 (neg_ℤ (pos 3)) (pos 5)) sight
+    → IsMetBy (body.Jump 4100 (4096 ∷ 4112 ∷ [])) sight → IsMetBy (body.Never 4104) sight
+    → IsMetBy (body.CallTo 4112 (8192 ∷ [])) sight
     → MeetsEach worked sight
 met_each sight a b c e zero d less = tt
 met_each sight a b c e (suc zero) d less = a

@@ -19,7 +19,9 @@ pub record IsBoundTo (image : List ℕ) (assertion : Assertion) (bound : BoundAs
 -- bound assertions are those of written ones, one for each in their order
 pub data AreBoundTo (image : List ℕ) : List Assertion → List BoundAssertion → Type 0 where
   NoneYet : AreBoundTo image [] []
-  OneMore : (assertion : Assertion) (bound : BoundAssertion) (assertions : List Assertion) (list : List BoundAssertion) → IsBoundTo image assertion bound → AreBoundTo image assertions list → AreBoundTo image (assertion ∷ assertions) (bound ∷ list)
+  OneMore : (assertion : Assertion) (bound : BoundAssertion) (assertions : List Assertion) (list : List BoundAssertion)
+      → IsBoundTo image assertion bound → AreBoundTo image assertions list
+      → AreBoundTo image (assertion ∷ assertions) (bound ∷ list)
 
 -- a list is bound to an image: each assertion says what is written, and no two speak of the same
 pub record IsBound (image : List ℕ) (assertions : List Assertion) (list : List BoundAssertion) : Type 0 where
@@ -29,7 +31,9 @@ pub record IsBound (image : List ℕ) (assertions : List Assertion) (list : List
 -- an assertion behind bound ones is refused: it says nothing, or an earlier one speaks of the same
 pub data IsRefusedBehind (image : List ℕ) (earlier : List BoundAssertion) (assertion : Assertion) : BindRefusal → Type 0 where
   OfItself : (why : BindRefusal) → SaysNothing image assertion.line assertion.body why → IsRefusedBehind image earlier assertion why
-  ForAnother : (says : BoundBody) (other : BoundAssertion) → Says image assertion.body says → Contains earlier other → is_same (subject_of other.body) (subject_of says) ≡ true → IsRefusedBehind image earlier assertion (Conflict assertion.line other.line)
+  ForAnother : (says : BoundBody) (other : BoundAssertion) → Says image assertion.body says → Contains earlier other
+      → is_same (subject_of other.body) (subject_of says) ≡ true
+      → IsRefusedBehind image earlier assertion (Conflict assertion.line other.line)
 
 -- the first assertion of a list that is refused: those before it are bound
 pub record IsFirstRefused (image : List ℕ) (assertions : List Assertion) (why : BindRefusal) : Type 0 where
@@ -43,8 +47,10 @@ pub record IsFirstRefused (image : List ℕ) (assertions : List Assertion) (why 
 
 -- a list has a binding exactly where that is what it means, and so it has one at most
 abbrev pub BindingsAreMeant : Type 0
-BindingsAreMeant = (image : List ℕ) (assertions : List Assertion) (list : List BoundAssertion) → (binding image assertions ≡ Ok list) ↔ IsBound image assertions list
+BindingsAreMeant = (image : List ℕ) (assertions : List Assertion) (list : List BoundAssertion)
+    → (binding image assertions ≡ Ok list) ↔ IsBound image assertions list
 
 -- a list is refused exactly for its first assertion that is refused
 abbrev pub RefusalsAreFirst : Type 0
-RefusalsAreFirst = (image : List ℕ) (assertions : List Assertion) (why : BindRefusal) → (binding image assertions ≡ Err why) ↔ IsFirstRefused image assertions why
+RefusalsAreFirst = (image : List ℕ) (assertions : List Assertion) (why : BindRefusal)
+    → (binding image assertions ≡ Err why) ↔ IsFirstRefused image assertions why

@@ -35,7 +35,8 @@ pub record IsSound (list : List BoundAssertion) : Type 0 where
   pub apart : AllPairs AreApart list
 
 -- a list of bound assertions with its index, and what is read off it once
-pub record IsBinding (list : List BoundAssertion) (places : BTreeMap Subject ℕ) (root_entries stub_entries : List ℕ) (loop_lines : List LoopLine) (range_ends : List ℤ) : Type 0 where
+pub record IsBinding (list : List BoundAssertion) (places : BTreeMap Subject ℕ) (root_entries stub_entries : List ℕ)
+    (loop_lines : List LoopLine) (range_ends : List ℤ) : Type 0 where
   pub sound : IsSound list
   pub index : IsIndex list places
   pub rooted : root_entries ≡ roots list

@@ -37,8 +37,8 @@ abbrev pub MeetsEach : List BoundAssertion → Sight → Type 0
 MeetsEach list sight = All (λ assertion. IsMetBy assertion.body sight) list
 
 -- all that a run shows meets each assertion of a list
-abbrev pub Meets : List BoundAssertion → List Sight → Type 0
-Meets list sights = All (MeetsEach list) sights
+abbrev pub AllMeetEach : List BoundAssertion → List Sight → Type 0
+AllMeetEach list sights = All (MeetsEach list) sights
 
 -- the same by what a binding is asked: the instruction may be reached, each register with a range is in it, and a jump
 -- or call with a list goes to a listed address

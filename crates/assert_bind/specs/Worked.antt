@@ -1,6 +1,6 @@
 -- A worked run and assertions that it meets, and machines that break each of them.
 use Rattle.std.specs.Prelude.{ℕ, ◌==◌, pos, neg_ℤ, List, [], ◌∷◌, Some, None, if◌then◌else◌, All}
-use Rattle.assert_bind.specs.Sight.{Sight, Meets, MeetsEach}
+use Rattle.assert_bind.specs.Sight.{Sight, AllMeetEach, MeetsEach}
 use Rattle.assert_bind.specs.declared.body.BoundAssertion.{BoundAssertion}
 use Rattle.assert_bind.specs.declared.body.BoundBody.TheVariants as body
 
@@ -38,5 +38,5 @@ breaking =
 
 -- the assertions are met by the run, and by none of the others
 pub record CanBeMetAndBroken : Type 0 where
-  pub met : Meets worked kept
+  pub met : AllMeetEach worked kept
   pub broken : All (λ sight. ¬ MeetsEach worked sight) breaking

@@ -2,7 +2,7 @@
 #![tactic(auto)]
 
 use bt_base::{FileShelf, OutSink};
-use bt_command::{Status, run_alone};
+use bt_command::{Status, exit_of, run_alone};
 use std::env;
 use std::io::{self, ErrorKind};
 use std::process::ExitCode;
@@ -53,5 +53,5 @@ fn main(rt: HostRuntime) -> io::Result<ExitCode> {
     if status.code() >= 2 {
         let _shown = show(&rt, &status);
     }
-    Ok(ExitCode::from(status.code()))
+    Ok(exit_of(&status))
 }

@@ -1,5 +1,6 @@
 -- What a status says of files that are told, where no fault rises: it is what their bytes come to, or memory is wanting.
-use Rattle.std.proofs.Common.{◌≡◌, ℕ, zero, suc, ◌≤◌, ◌<◌, ◌⊎◌, inl, inr, Bool, true, false, cond, List, length, Option, Some, None, Result, Ok, Err, nat_lt, refl, sym, ap, subst, ◌∙◌, arith}
+use Rattle.std.proofs.Common.{◌≡◌, ℕ, zero, suc, ◌≤◌, ◌<◌, ◌⊎◌, inl, inr, Bool, true, false, cond, List, length, Option, Some, None, Result, Ok, Err}
+use Rattle.std.proofs.Common.{nat_lt, refl, sym, ap, subst, ◌∙◌, arith}
 use Rattle.std.proofs.lemmas.Bool.Decides.{nat_tests}
 use Rattle.assert_bind.specs.Binding.{binding}
 use Rattle.assert_bind.specs.declared.body.BoundAssertion.{BoundAssertion}
@@ -8,7 +9,8 @@ use Rattle.bt_command.proofs.Wholes.{agrees}
 use Rattle.bt_command.specs.Bound.{Names, HasFiles, RefusesAssertions, BoundSays}
 use Rattle.bt_command.specs.Call.{Call, longest_image, longest_table, longest_assertions, AgreesWith, IsTooLong, HasImage, HasCosts}
 use Rattle.bt_command.specs.Decode.{DecodeSays}
-use Rattle.bt_command.specs.Order.{root_or_not, root_bound, root_parsed, root_of_text, behind_costs, behind_table, behind_check, behind_image, root_of_files, ComesTo, AreTold, BoundIsExact, listing_checked, listing_status, DecodeIsExact}
+use Rattle.bt_command.specs.Order.{root_or_not, root_bound, root_parsed, root_of_text, behind_costs, behind_table, behind_check, behind_image}
+use Rattle.bt_command.specs.Order.{root_of_files, ComesTo, AreTold, BoundIsExact, listing_checked, listing_status, DecodeIsExact}
 use Rattle.bt_command.specs.Report.{one_root}
 use Rattle.bt_command.specs.declared.status.AssertFault.TheVariants.{Parse, Bind}
 use Rattle.bt_command.specs.declared.status.AssertFault.{AssertFault}
@@ -47,14 +49,16 @@ past_text image text h =
     ap (λ (b : Bool). cond b (Err (Limit (TooLong 3 longest_assertions))) (root_parsed image (assertions_of text))) (not_over longest_assertions text h)
 
 -- a told file that is an image
-past_told_image : (told : Option (List ℕ)) (image' image : List ℕ) (rest : Result ℕ Status) → HasImage told image' → told ≡ Some image → behind_image image rest ≡ rest
+past_told_image : (told : Option (List ℕ)) (image' image : List ℕ) (rest : Result ℕ Status) → HasImage told image' → told ≡ Some image
+    → behind_image image rest ≡ rest
 past_told_image told image' image rest h e =
     let same : image' ≡ image = agrees told image' image h.file.same e in
     let fits : length image ≤ longest_image = subst (λ (i : List ℕ). length i ≤ longest_image) same h.file.within in
     let fine : first_refusal image ≡ None = subst (λ (i : List ℕ). first_refusal i ≡ None) same h.accepted in
     past_image image rest fits ∙ ap (λ (r : Option _). behind_check r rest) fine
 
-past_told_table : (told : Option (List ℕ)) (costs table : List ℕ) (rest : Result ℕ Status) → HasCosts told costs → told ≡ Some table → behind_table table rest ≡ rest
+past_told_table : (told : Option (List ℕ)) (costs table : List ℕ) (rest : Result ℕ Status) → HasCosts told costs → told ≡ Some table
+    → behind_table table rest ≡ rest
 past_told_table told costs table rest h e =
     let same : h.table ≡ table = agrees told h.table table h.file.same e in
     let fits : length table ≤ longest_table = subst (λ (t : List ℕ). length t ≤ longest_table) same h.file.within in
@@ -62,7 +66,8 @@ past_told_table told costs table rest h e =
     past_table table rest fits ∙ ap (λ (r : Result (List ℕ) _). behind_costs r rest) fine
 
 -- what a told text of assertions comes to, which is within its limit
-told_text : (told : Option (List ℕ)) (image text' text : List ℕ) (parsed : _) → AgreesWith told text' → length text' ≤ longest_assertions → assertions_of text' ≡ parsed → told ≡ Some text → root_of_text image text ≡ root_parsed image parsed
+told_text : (told : Option (List ℕ)) (image text' text : List ℕ) (parsed : _) → AgreesWith told text' → length text' ≤ longest_assertions
+    → assertions_of text' ≡ parsed → told ≡ Some text → root_of_text image text ≡ root_parsed image parsed
 told_text told image text' text parsed h w is e =
     let same : text' ≡ text = agrees told text' text h e in
     let fits : length text ≤ longest_assertions = subst (λ (t : List ℕ). length t ≤ longest_assertions) same w in
@@ -70,13 +75,15 @@ told_text told image text' text parsed h w is e =
     past_text image text fits ∙ ap (root_parsed image) fine
 
 -- behind an accepted image and an accepted table
-past_both : (call : Call) (names : Names) (image table text image' costs : List ℕ) → AreTold call names image table text → HasImage (call.told names.image) image' → HasCosts (call.told names.cycles) costs → root_of_files image table text ≡ root_of_text image text
+past_both : (call : Call) (names : Names) (image table text image' costs : List ℕ) → AreTold call names image table text
+    → HasImage (call.told names.image) image' → HasCosts (call.told names.cycles) costs → root_of_files image table text ≡ root_of_text image text
 past_both call names image table text image' costs t i c =
     past_told_image (call.told names.image) image' image (behind_table table (root_of_text image text)) i t.image_is
     ∙ past_told_table (call.told names.cycles) costs table (root_of_text image text) c t.table_is
 
 -- accepted files come to the root that they state
-accepted_files : (call : Call) (names : Names) (image table text image' costs : List ℕ) (those : List BoundAssertion) → AreTold call names image table text → HasFiles call names image' costs those → root_of_files image table text ≡ root_or_not (one_root those)
+accepted_files : (call : Call) (names : Names) (image table text image' costs : List ℕ) (those : List BoundAssertion) → AreTold call names image table text
+    → HasFiles call names image' costs those → root_of_files image table text ≡ root_or_not (one_root those)
 accepted_files call names image table text image' costs those t f =
     let same : image' ≡ image = agrees (call.told names.image) image' image f.has_image.file.same t.image_is in
     let a = f.has_assertions in
@@ -90,11 +97,13 @@ refused : (image : List ℕ) (r : Result ℕ Status) (status : Status) → r ≡
 refused image r status e = inr (subst (λ (x : Result ℕ Status). ComesTo image x status) (sym e) refl)
 
 -- what comes to a root
-rooted : (image : List ℕ) (r : Result ℕ Status) (entry : ℕ) (status : Status) → r ≡ Ok entry → ComesTo image (Ok entry) status → (status ≡ Want) ⊎ ComesTo image r status
+rooted : (image : List ℕ) (r : Result ℕ Status) (entry : ℕ) (status : Status) → r ≡ Ok entry → ComesTo image (Ok entry) status
+    → (status ≡ Want) ⊎ ComesTo image r status
 rooted image r entry status e h = inr (subst (λ (x : Result ℕ Status). ComesTo image x status) (sym e) h)
 
 -- refused assertions
-refused_text : (call : Call) (names : Names) (image table text : List ℕ) (fault : AssertFault) → AreTold call names image table text → RefusesAssertions call names fault → root_of_files image table text ≡ Err (Assertions fault)
+refused_text : (call : Call) (names : Names) (image table text : List ℕ) (fault : AssertFault) → AreTold call names image table text
+    → RefusesAssertions call names fault → root_of_files image table text ≡ Err (Assertions fault)
 refused_text call names image table text (Parse refusal) t r =
     past_both call names image table text r.image r.costs.costs t r.has_image r.costs.has
     ∙ told_text (call.told names.assertions) image r.refused.text text (Err refusal) r.refused.file.same r.refused.file.within r.refused.refused t.text_is
@@ -109,7 +118,8 @@ pub bound_exact : (names : Names) (call : Call) (status : Status) → BoundSays 
 bound_exact names call Bounded says image table text t n =
     let report = says.is.report in
     let same : says.is.image ≡ image = agrees (call.told names.image) says.is.image image says.is.files.has_image.file.same t.image_is in
-    let straight : IsStraight image report.entry report.report.count = subst (λ (i : List ℕ). IsStraight i report.entry report.report.count) same report.report.straight in
+    let straight : IsStraight image report.entry report.report.count = subst (λ (i : List ℕ). IsStraight i report.entry report.report.count) same
+    report.report.straight in
     rooted image (root_of_files image table text) report.entry Bounded
     (accepted_files call names image table text says.is.image says.is.costs says.is.those t says.is.files ∙ ap root_or_not report.root)
     (inl (refl, (report.report.count, straight)))
@@ -166,7 +176,8 @@ bound_exact names call (Limit (TooLong (suc (suc (suc (suc f)))) limit)) says im
 bound_exact names call (NotYet zero) says image table text t n = absurd says
 bound_exact names call (NotYet (suc zero)) says image table text t n =
     let same : says.image ≡ image = agrees (call.told names.image) says.image image says.files.has_image.file.same t.image_is in
-    let not : (count : ℕ) → IsStraight image says.entry count → ⊥ = λ count s. says.not_straight count (subst (λ (i : List ℕ). IsStraight i says.entry count) (sym same) s) in
+    let not : (count : ℕ) → IsStraight image says.entry count
+    → ⊥ = λ count s. says.not_straight count (subst (λ (i : List ℕ). IsStraight i says.entry count) (sym same) s) in
     rooted image (root_of_files image table text) says.entry (NotYet 1)
     (accepted_files call names image table text says.image says.costs says.those t says.files ∙ ap root_or_not says.root)
     (inr (refl, not))

@@ -1,3 +1,4 @@
 pub mod Ascii
+pub mod Asks
 pub mod Exact
 pub mod Wholes

@@ -31,40 +31,47 @@ within (Some x) limit bytes e h long =
     omega arith
 
 -- accepted bytes aren't refused
-accepted : (told : Option (List ℕ)) (refused those : List ℕ) → (r : _) → AgreesWith told refused → first_refusal refused ≡ Some r → told ≡ Some those → first_refusal those ≡ None → ⊥
+accepted : (told : Option (List ℕ)) (refused those : List ℕ) → (r : _) → AgreesWith told refused → first_refusal refused ≡ Some r → told ≡ Some those
+    → first_refusal those ≡ None → ⊥
 accepted told refused those r same is e none =
     let one : refused ≡ those = agrees told refused those same e in
     let here : first_refusal those ≡ Some r = ap first_refusal (sym one) ∙ is in
     cc
 
 -- a text that a file agrees with is parsed to one list
-one_list : (told : Option (List ℕ)) (text those : List ℕ) (list list' : List Assertion) → AgreesWith told text → told ≡ Some those → assertions_of text ≡ Ok list → assertions_of those ≡ Ok list' → list ≡ list'
+one_list : (told : Option (List ℕ)) (text those : List ℕ) (list list' : List Assertion) → AgreesWith told text → told ≡ Some those
+    → assertions_of text ≡ Ok list → assertions_of those ≡ Ok list' → list ≡ list'
 one_list told text those list list' h e parsed parsed' =
     let same : text ≡ those = agrees told text those h e in
     let here : assertions_of those ≡ Ok list = ap assertions_of (sym same) ∙ parsed in
     cc
 
 -- a list is bound to an image in one way
-one_binding : (image image' : List ℕ) (list list' : List Assertion) (b b' : _) → image ≡ image' → list ≡ list' → binding image list ≡ b → binding image' list' ≡ b' → b ≡ b'
+one_binding : (image image' : List ℕ) (list list' : List Assertion) (b b' : _) → image ≡ image' → list ≡ list' → binding image list ≡ b
+    → binding image' list' ≡ b' → b ≡ b'
 one_binding image image' list list' b b' i l is is' =
     let moved : binding image list' ≡ b = subst (λ (x : List Assertion). binding image x ≡ b) l is in
     let there : binding image' list' ≡ b = subst (λ (x : List ℕ). binding x list' ≡ b) i moved in
     cc
 
 -- the files that a status speaks of are the accepted ones
-one_image : (call : Call) (names : Names) (entry count : ℕ) (a : AreAccepted call names entry count) (image costs : List ℕ) (those : List BoundAssertion) → HasFiles call names image costs those → image ≡ a.image
+one_image : (call : Call) (names : Names) (entry count : ℕ) (a : AreAccepted call names entry count) (image costs : List ℕ) (those : List BoundAssertion)
+    → HasFiles call names image costs those → image ≡ a.image
 one_image call names entry count a image costs those f = agrees (call.told names.image) image a.image f.has_image.file.same a.image_is
 
-one_statement : (call : Call) (names : Names) (entry count : ℕ) (a : AreAccepted call names entry count) (image costs : List ℕ) (those : List BoundAssertion) → HasFiles call names image costs those → those ≡ a.those
+one_statement : (call : Call) (names : Names) (entry count : ℕ) (a : AreAccepted call names entry count) (image costs : List ℕ) (those : List BoundAssertion)
+    → HasFiles call names image costs those → those ≡ a.those
 one_statement call names entry count a image costs those f =
     let here = f.has_assertions in
-    let lists : here.list ≡ a.list = one_list (call.told names.assertions) here.text a.text here.list a.list here.file.same a.text_is here.parsed a.text_accepted in
+    let lists : here.list ≡ a.list = one_list (call.told names.assertions) here.text a.text here.list a.list here.file.same a.text_is here.parsed
+    a.text_accepted in
     let images : image ≡ a.image = one_image call names entry count a image costs those f in
     let both = one_binding image a.image here.list a.list (Ok those) (Ok a.those) images lists here.bound a.list_accepted in
     cc
 
 -- accepted assertions aren't refused
-not_refused : (call : Call) (names : Names) (entry count : ℕ) (a : AreAccepted call names entry count) (fault : AssertFault) → RefusesAssertions call names fault → ⊥
+not_refused : (call : Call) (names : Names) (entry count : ℕ) (a : AreAccepted call names entry count) (fault : AssertFault)
+    → RefusesAssertions call names fault → ⊥
 not_refused call names entry count a (Parse refusal) r =
     let same : r.refused.text ≡ a.text = agrees (call.told names.assertions) r.refused.text a.text r.refused.file.same a.text_is in
     let here : assertions_of a.text ≡ Err refusal = ap assertions_of (sym same) ∙ r.refused.refused in
@@ -72,7 +79,8 @@ not_refused call names entry count a (Parse refusal) r =
     cc
 not_refused call names entry count a (Bind refusal) r =
     let images : r.image ≡ a.image = agrees (call.told names.image) r.image a.image r.has_image.file.same a.image_is in
-    let lists : r.refused.list ≡ a.list = one_list (call.told names.assertions) r.refused.text a.text r.refused.list a.list r.refused.file.same a.text_is r.refused.parsed a.text_accepted in
+    let lists : r.refused.list ≡ a.list = one_list (call.told names.assertions) r.refused.text a.text r.refused.list a.list r.refused.file.same a.text_is
+    r.refused.parsed a.text_accepted in
     let both = one_binding r.image a.image r.refused.list a.list (Err refusal) (Ok a.those) images lists r.refused.refused a.list_accepted in
     cc
 

@@ -7,7 +7,8 @@ use Rattle.assert_lang.specs.Text.{assertions_of}
 use Rattle.assert_lang.specs.declared.assertion.Assertion.{Assertion}
 use Rattle.bt_image.specs.Refusal.{first_refusal}
 use Rattle.cycle_table.specs.Table.{table_of}
-use Rattle.bt_command.specs.Call.{Call, longest_image, longest_table, longest_assertions, RoseFor, RoseForSink, IsTooLong, HasImage, HasCosts, HasAssertions, IsNoImage, IsNoTable, StatesNothing, AcceptsImage, AcceptsCosts, IsWritten, IsCutShort}
+use Rattle.bt_command.specs.Call.{Call, longest_image, longest_table, longest_assertions, RoseFor, RoseForSink, IsTooLong, HasImage, HasCosts}
+use Rattle.bt_command.specs.Call.{HasAssertions, IsNoImage, IsNoTable, StatesNothing, AcceptsImage, AcceptsCosts, IsWritten, IsCutShort}
 use Rattle.bt_command.specs.Report.{one_root, IsReportOf}
 use Rattle.bt_command.specs.declared.status.AssertFault.{AssertFault}
 use Rattle.bt_command.specs.declared.status.LimitFault.TheVariants.{TooLong}

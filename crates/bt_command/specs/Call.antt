@@ -6,6 +6,7 @@ use Rattle.assert_bind.specs.declared.refusal.BindRefusal.{BindRefusal}
 use Rattle.assert_lang.specs.Text.{assertions_of}
 use Rattle.assert_lang.specs.declared.assertion.Assertion.{Assertion}
 use Rattle.assert_lang.specs.declared.refusal.AssertRefusal.{AssertRefusal}
+use Rattle.bt_base.specs.Ask.{Ask}
 use Rattle.bt_base.specs.Shelf.{Rose}
 use Rattle.bt_base.specs.Sink.{Appended}
 use Rattle.bt_image.specs.Refusal.{first_refusal}
@@ -16,7 +17,7 @@ use Rattle.cycle_table.specs.Table.{table_of}
 use Rattle.cycle_table.specs.declared.refusal.CycleRefusal.{CycleRefusal}
 
 -- what a call is given, and what it leaves: what the shelf tells under each name, the counts of faults of the shelf
--- and the sink before and after, and what the sink tells before and after
+-- and the sink before and after, what was asked of the shelf before and after, and what the sink tells before and after
 pub record Call : Type 0 where
   pub told : List ℕ → Option (List ℕ)
   pub faults : List ℕ → ℕ
@@ -25,6 +26,23 @@ pub record Call : Type 0 where
   pub written_after : Option (List ℕ)
   pub sink_faults : ℕ
   pub sink_faults_after : ℕ
+  pub asked : List Ask
+  pub asked_after : List Ask
+
+-- the call between these states of a shelf and a sink, of which these are the meanings
+abbrev pub call_of : {F K : Type 0} → (F → List ℕ → Option (List ℕ)) → (F → List ℕ → ℕ) → (F → List Ask) → (K → Option (List ℕ)) → (K → ℕ)
+    → F → F → K → K → Call
+call_of told faults asked written sink_faults shelf shelf_after sink sink_after = record {
+  told = told shelf;
+  faults = faults shelf;
+  faults_after = faults shelf_after;
+  written = written sink;
+  written_after = written sink_after;
+  sink_faults = sink_faults sink;
+  sink_faults_after = sink_faults sink_after;
+  asked = asked shelf;
+  asked_after = asked shelf_after;
+}
 
 -- the most bytes of an image, 16 MiB
 abbrev pub longest_image : ℕ

@@ -1,4 +1,5 @@
 pub mod Answer
+pub mod Asks
 pub mod Bound
 pub mod Call
 pub mod Decode

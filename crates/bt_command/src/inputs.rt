@@ -1,5 +1,6 @@
 //! The files of a call, read and checked.
 ghost use Rattle.std.specs.Prelude.{◌≡◌, ◌<◌, ℕ, length, IfOk, IfSome, IsErrOf};
+ghost use Rattle.bt_base.specs.Ask.{IsReading};
 ghost use Rattle.bt_base.specs.Shelf.{TellsTheSame, NoneFalls, Rose};
 ghost use Rattle.bt_image.specs.declared.refusal.ImageRefusal.{ImageRefusal};
 ghost use Rattle.cycle_table.specs.declared.refusal.CycleRefusal.{CycleRefusal};
@@ -44,6 +45,7 @@ pub fn image_from<F: Shelf>(
 ) -> Result<Image, NoFile<ImageRefusal>>
     ensures same { TellsTheSame (F.told shelf.old) (F.told shelf.new) }
     ensures counts { NoneFalls (F.faults shelf.old) (F.faults shelf.new) }
+    ensures asked { IsReading name.now longest_image (F.asked shelf.old) (F.asked shelf.new) }
     ensures accepted { IfOk result (λ image. HasImage (F.told shelf.old name.now) image) }
     ensures fault { IsErrOf result NoFile.Fault → Rose (F.faults shelf.old name.now) (F.faults shelf.new name.now) }
     ensures too_long { IsErrOf result NoFile.TooLong → IfSome (F.told shelf.old name.now) (λ bytes. longest_image < length bytes) }
@@ -71,6 +73,7 @@ pub fn cycles_from<F: Shelf>(
 ) -> Result<Cycles, NoFile<CycleRefusal>>
     ensures same { TellsTheSame (F.told shelf.old) (F.told shelf.new) }
     ensures counts { NoneFalls (F.faults shelf.old) (F.faults shelf.new) }
+    ensures asked { IsReading name.now longest_table (F.asked shelf.old) (F.asked shelf.new) }
     ensures accepted { IfOk result (λ cycles. HasCosts (F.told shelf.old name.now) cycles) }
     ensures fault { IsErrOf result NoFile.Fault → Rose (F.faults shelf.old name.now) (F.faults shelf.new name.now) }
     ensures too_long { IsErrOf result NoFile.TooLong → IfSome (F.told shelf.old name.now) (λ bytes. longest_table < length bytes) }
@@ -98,6 +101,7 @@ pub fn assertions_from<F: Shelf>(
 ) -> Result<Binding, NoFile<AssertFault>>
     ensures same { TellsTheSame (F.told shelf.old) (F.told shelf.new) }
     ensures counts { NoneFalls (F.faults shelf.old) (F.faults shelf.new) }
+    ensures asked { IsReading name.now longest_assertions (F.asked shelf.old) (F.asked shelf.new) }
     ensures accepted { IfOk result (λ binding. HasAssertions (F.told shelf.old name.now) image.now binding) }
     ensures fault { IsErrOf result NoFile.Fault → Rose (F.faults shelf.old name.now) (F.faults shelf.new name.now) }
     ensures too_long { IsErrOf result NoFile.TooLong → IfSome (F.told shelf.old name.now) (λ bytes. longest_assertions < length bytes) }

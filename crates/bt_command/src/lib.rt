@@ -9,4 +9,4 @@ mod status;
 
 pub use inputs::{ASSERTIONS_LIMIT, IMAGE_LIMIT, TABLE_LIMIT};
 pub use running::run_alone;
-pub use status::{AssertFault, LimitFault, Status};
+pub use status::{AssertFault, LimitFault, Status, exit_of};

@@ -1,9 +1,12 @@
 //! The commands, and the call that runs them.
 ghost use Rattle.std.specs.Prelude.{◌≡◌, ◌≤◌, ℕ, List};
+ghost use Rattle.bt_base.specs.Ask.{IsReading};
 ghost use Rattle.bt_base.specs.Shelf.{TellsTheSame, NoneFalls};
 ghost use Rattle.bt_words.specs.Request.{texts};
 ghost use Rattle.bt_command.specs.Answer.{Answers, Writes};
+ghost use Rattle.bt_command.specs.Asks.{AsksInOrder, ReadsInOrder};
 ghost use Rattle.bt_command.specs.Bound.{BoundSays};
+ghost use Rattle.bt_command.specs.Call.{call_of, longest_image};
 ghost use Rattle.bt_command.specs.Decode.{DecodeSays};
 
 use crate::inputs::{
@@ -17,6 +20,7 @@ use sparc_text::listing;
 use std::alloc::Global;
 
 /// The command `bound`: reads the image, the table and the assertions, makes the report and writes it.
+#[tactic(auto, using(crate::proofs::Asks::read_image))]
 fn bound<F: Shelf, K: Sink>(
     alloc: Global,
     image: &str,
@@ -28,24 +32,9 @@ fn bound<F: Shelf, K: Sink>(
     ensures same { TellsTheSame (F.told shelf.old) (F.told shelf.new) }
     ensures counts { NoneFalls (F.faults shelf.old) (F.faults shelf.new) }
     ensures sink_counts { K.faults out.old ≤ K.faults out.new }
-    ensures says { BoundSays (record { image = image.now; cycles = cycles.now; assertions = assertions.now }) (record {
-      told = F.told shelf.old;
-      faults = F.faults shelf.old;
-      faults_after = F.faults shelf.new;
-      written = K.told out.old;
-      written_after = K.told out.new;
-      sink_faults = K.faults out.old;
-      sink_faults_after = K.faults out.new;
-    }) result }
-    ensures writes { Writes (record {
-      told = F.told shelf.old;
-      faults = F.faults shelf.old;
-      faults_after = F.faults shelf.new;
-      written = K.told out.old;
-      written_after = K.told out.new;
-      sink_faults = K.faults out.old;
-      sink_faults_after = K.faults out.new;
-    }) result }
+    ensures says { BoundSays (record { image = image.now; cycles = cycles.now; assertions = assertions.now }) (call_of F.told F.faults F.asked K.told K.faults shelf.old shelf.new out.old out.new) result }
+    ensures writes { Writes (call_of F.told F.faults F.asked K.told K.faults shelf.old shelf.new out.old out.new) result }
+    ensures asks { ReadsInOrder (record { image = image.now; cycles = cycles.now; assertions = assertions.now }) (call_of F.told F.faults F.asked K.told K.faults shelf.old shelf.new out.old out.new) }
 {
     let image = match image_from(alloc, shelf, image) {
         Ok(image) => image,
@@ -102,27 +91,12 @@ fn bound<F: Shelf, K: Sink>(
 
 /// The command `decode`: reads the image, makes its listing and writes it.
 fn decode<F: Shelf, K: Sink>(alloc: Global, image: &str, shelf: &mut F, out: &mut K) -> Status
+    ensures asks { IsReading image.now longest_image (F.asked shelf.old) (F.asked shelf.new) }
     ensures same { TellsTheSame (F.told shelf.old) (F.told shelf.new) }
     ensures counts { NoneFalls (F.faults shelf.old) (F.faults shelf.new) }
     ensures sink_counts { K.faults out.old ≤ K.faults out.new }
-    ensures says { DecodeSays image.now (record {
-      told = F.told shelf.old;
-      faults = F.faults shelf.old;
-      faults_after = F.faults shelf.new;
-      written = K.told out.old;
-      written_after = K.told out.new;
-      sink_faults = K.faults out.old;
-      sink_faults_after = K.faults out.new;
-    }) result }
-    ensures writes { Writes (record {
-      told = F.told shelf.old;
-      faults = F.faults shelf.old;
-      faults_after = F.faults shelf.new;
-      written = K.told out.old;
-      written_after = K.told out.new;
-      sink_faults = K.faults out.old;
-      sink_faults_after = K.faults out.new;
-    }) result }
+    ensures says { DecodeSays image.now (call_of F.told F.faults F.asked K.told K.faults shelf.old shelf.new out.old out.new) result }
+    ensures writes { Writes (call_of F.told F.faults F.asked K.told K.faults shelf.old shelf.new out.old out.new) result }
 {
     let image = match image_from(alloc, shelf, image) {
         Ok(image) => image,
@@ -168,25 +142,12 @@ pub fn run_alone<F: Shelf, K: Sink>(
     ensures sink_counts { K.faults out.old ≤ K.faults out.new }
     // The words are refused, or what the status says of the call is true, accepted files give the whole text, and files
     // that are told come to the first refusal of their bytes.
-    ensures answers { Answers (texts words.now) (record {
-      told = F.told shelf.old;
-      faults = F.faults shelf.old;
-      faults_after = F.faults shelf.new;
-      written = K.told out.old;
-      written_after = K.told out.new;
-      sink_faults = K.faults out.old;
-      sink_faults_after = K.faults out.new;
-    }) result }
+    ensures answers { Answers (texts words.now) (call_of F.told F.faults F.asked K.told K.faults shelf.old shelf.new out.old out.new) result }
+    // Nothing is asked of the shelf but the files that the words name, in their order, each only once the one before is
+    // accepted.
+    ensures asks { AsksInOrder (texts words.now) (call_of F.told F.faults F.asked K.told K.faults shelf.old shelf.new out.old out.new) }
     // With any status but that of the whole text and that of a text cut short nothing was put into the sink.
-    ensures writes { Writes (record {
-      told = F.told shelf.old;
-      faults = F.faults shelf.old;
-      faults_after = F.faults shelf.new;
-      written = K.told out.old;
-      written_after = K.told out.new;
-      sink_faults = K.faults out.old;
-      sink_faults_after = K.faults out.new;
-    }) result }
+    ensures writes { Writes (call_of F.told F.faults F.asked K.told K.faults shelf.old shelf.new out.old out.new) result }
 {
     match request_of(alloc, words) {
         Ok(

@@ -1,4 +1,5 @@
 ghost use Rattle.std.specs.Prelude.{◌≡◌, IfOk, string_bytes};
+ghost use Rattle.std.specs.Process.{exit_status};
 ghost use Rattle.bt_command.specs.Status.{code_of, message_of};
 
 use crate::messages::{bind_text, cycles_text, image_text, parse_text};
@@ -8,6 +9,7 @@ use bt_base::Want;
 use bt_image::ImageRefusal;
 use cycle_table::CycleRefusal;
 use std::alloc::Global;
+use std::process::ExitCode;
 
 /// What a call of the program came to.
 #[derive(Clone, Copy, Debug, PartialEq, Eq)]
@@ -108,4 +110,11 @@ impl Status {
             Err(_) => Err(Want),
         }
     }
+}
+
+/// The exit status of the program, as it is handed to the system.
+pub fn exit_of(status: &Status) -> ExitCode
+    ensures { exit_status result ≡ code_of status.now }
+{
+    ExitCode::from(status.code())
 }

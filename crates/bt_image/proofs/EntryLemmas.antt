@@ -1,5 +1,7 @@
 -- The entry of a name, looked up in a table that is in order.
-use Rattle.std.proofs.Common.{◌≡◌, ℕ, zero, suc, ◌+◌, ◌<◌, ◌≤◌, ◌⊎◌, inl, inr, Bool, true, false, ◌&&◌, List, [], ◌∷◌, ◌++◌, length, get_or, Contains, Option, Some, None, nat_cmp, refl, sym, ◌∙◌, ap, subst, arith, ⊎_elim, if◌then◌else◌}
+use Rattle.std.proofs.Common.{◌≡◌, ℕ, zero, suc, ◌+◌, ◌<◌, ◌≤◌, ◌⊎◌, inl, inr, Bool, true, false, ◌&&◌, List, [], ◌∷◌}
+use Rattle.std.proofs.Common.{◌++◌, length, get_or, Contains, Option, Some, None, nat_cmp, refl, sym, ◌∙◌, ap, subst}
+use Rattle.std.proofs.Common.{arith, ⊎_elim, if◌then◌else◌}
 use Rattle.std.specs.Prelude.{nat_lt, bytes_eq}
 use Rattle.std.specs.Cmp.{IsTotalOrder, IsStrictWeakOrder}
 use Rattle.std.specs.Cmp.Lexicographic.{slice_cmp}
@@ -70,7 +72,8 @@ le_lt {K} {R} o x y z up lt = by (R x y) refl
     by Greater e = absurd (false≢true (sym up ∙ ap is_lt (o.antisymm y x ∙ ap ordering_reverse e)))
 
 -- names that come before one stand before the others
-pub partitioned : (strings : List ℕ) (entries : List Entry) (name : List ℕ) → AreInOrder strings entries → IsPartitionedBy (λ e. is_before (text strings e) name) entries
+pub partitioned : (strings : List ℕ) (entries : List Entry) (name : List ℕ) → AreInOrder strings entries
+    → IsPartitionedBy (λ e. is_before (text strings e) name) entries
 partitioned strings entries name sorted = λ i j d le lt h.
     let x = text strings (get_or entries i d) in
     let y = text strings (get_or entries j d) in
@@ -146,13 +149,15 @@ entry_means : (file name : List ℕ) (k y : ℕ) → entry_for file name k ≡ S
     → (is_function_symbol file k ≡ true) × (bytes_eq (symbol_name file k) name ≡ true) × ((symbol_at file k).value ≡ y)
 entry_means file name k y h = by (is_function_symbol file k) (bytes_eq (symbol_name file k) name) refl refl h
   where
-    by : (a b : Bool) → is_function_symbol file k ≡ a → bytes_eq (symbol_name file k) name ≡ b → (if a && b then Some (symbol_at file k).value else None) ≡ Some y
+    by : (a b : Bool) → is_function_symbol file k ≡ a → bytes_eq (symbol_name file k) name ≡ b
+        → (if a && b then Some (symbol_at file k).value else None) ≡ Some y
         → (is_function_symbol file k ≡ true) × (bytes_eq (symbol_name file k) name ≡ true) × ((symbol_at file k).value ≡ y)
     by true true e f g = (e, f, cc)
     by true false e f g = absurd cc
     by false b e f g = absurd cc
 
-entry_is : (file name : List ℕ) (k : ℕ) → is_function_symbol file k ≡ true → bytes_eq (symbol_name file k) name ≡ true → entry_for file name k ≡ Some (symbol_at file k).value
+entry_is : (file name : List ℕ) (k : ℕ) → is_function_symbol file k ≡ true → bytes_eq (symbol_name file k) name ≡ true
+    → entry_for file name k ≡ Some (symbol_at file k).value
 entry_is file name k e f = rw (e, f) refl
 
 -- names that are equal compare as equal
@@ -163,25 +168,33 @@ equal_not_less : (r : Ordering) → r ≡ Equal → is_lt r ≡ true → ⊥
 equal_not_less r e h = false≢true (sym (ap is_lt e) ∙ h)
 
 -- a function symbol of a name is an entry of that name, at some place of the table
-place_of : (file name : List ℕ) (entries : List Entry) (k y : ℕ) (d : Entry) → AreEntries file (symbol_count file) entries → k < symbol_count file → entry_for file name k ≡ Some y
+place_of : (file name : List ℕ) (entries : List Entry) (k y : ℕ) (d : Entry) → AreEntries file (symbol_count file) entries
+    → k < symbol_count file → entry_for file name k ≡ Some y
     → (m : ℕ) × (m < length entries) × (slice_cmp nat_cmp (text (symbol_strings file) (get_or entries m d)) name ≡ Equal) × ((get_or entries m d).address ≡ y)
 place_of file name entries k y d are lt h =
     let p = entry_means file name k y h in
     let c = are.all k lt p.0 in
-    let at = get_or_default entries c.0 d (entry_from (symbol_at file k)) c.1 ∙ c.2 in
-    (c.0, c.1, ap (λ (e : Entry). slice_cmp nat_cmp (text (symbol_strings file) e) name) at ∙ same_names (symbol_name file k) name p.1, ap (λ (e : Entry). e.address) at ∙ p.2)
+    let at = get_or_default entries c.0 d (entry_from (symbol_at file k)) c.1 ∙ c.2 in (
+      c.0,
+      c.1,
+      ap (λ (e : Entry). slice_cmp nat_cmp (text (symbol_strings file) e) name) at
+          ∙ same_names (symbol_name file k) name p.1,
+      ap (λ (e : Entry). e.address) at ∙ p.2,
+    )
 
 abbrev pub no_entry : Entry
 no_entry = record { name = 0; address = 0 }
 
 -- the first entry of a name has its least address
-pub entry_found : (file name : List ℕ) (entries : List Entry) (place : ℕ) (d : Entry) → AreEntries file (symbol_count file) entries → AreInOrder (symbol_strings file) entries → place < length entries
+pub entry_found : (file name : List ℕ) (entries : List Entry) (place : ℕ) (d : Entry) → AreEntries file (symbol_count file) entries
+    → AreInOrder (symbol_strings file) entries → place < length entries
     → ((k : ℕ) (d : Entry) → k < place → is_before (text (symbol_strings file) (get_or entries k d)) name ≡ true)
     → bytes_eq (text (symbol_strings file) (get_or entries place d)) name ≡ true → entry_of file name ≡ Some (get_or entries place d).address
 unfolding entry_of
 entry_found file name entries place d are sorted lt below same =
     least_is (entry_for file name) (symbol_count file) i.symbol e.address i.within
-    (entry_is file name i.symbol i.function (ap (λ (x : Entry). bytes_eq (text (symbol_strings file) x) name) i.is ∙ same) ∙ ap (λ (x : Entry). Some x.address) i.is)
+    (entry_is file name i.symbol i.function (ap (λ (x : Entry). bytes_eq (text (symbol_strings file) x) name) i.is ∙ same)
+    ∙ ap (λ (x : Entry). Some x.address) i.is)
     least
   where
     e : Entry
@@ -205,7 +218,8 @@ entry_found file name entries place d are sorted lt below same =
         (cases_lt p.0 place)
 
 -- where the entry at the place of a name has another, there is none of that name
-pub entry_missing : (file name : List ℕ) (entries : List Entry) (place : ℕ) (d : Entry) → AreEntries file (symbol_count file) entries → AreInOrder (symbol_strings file) entries
+pub entry_missing : (file name : List ℕ) (entries : List Entry) (place : ℕ) (d : Entry)
+    → AreEntries file (symbol_count file) entries → AreInOrder (symbol_strings file) entries
     → ((k : ℕ) (d : Entry) → k < place → is_before (text (symbol_strings file) (get_or entries k d)) name ≡ true)
     → ((k : ℕ) (d : Entry) → place ≤ k → k < length entries → is_before (text (symbol_strings file) (get_or entries k d)) name ≡ false)
     → (place < length entries → bytes_eq (text (symbol_strings file) (get_or entries place d)) name ≡ false) → entry_of file name ≡ None
@@ -228,12 +242,14 @@ entry_missing file name entries place d are sorted below above other = least_non
 
 -- the table as it grows
 pub none_entered : (file : List ℕ) (entries : List Entry) → entries ≡ [] → AreEntries file 0 entries
-none_entered file entries none = subst (AreEntries file 0) (sym none) (record { each = λ e c. absurd (let h = c.1 in omega arith); all = λ k lt. absurd (omega arith) })
+none_entered file entries none = subst (AreEntries file 0) (sym none)
+    (record { each = λ e c. absurd (let h = c.1 in omega arith); all = λ k lt. absurd (omega arith) })
 
 later : (file : List ℕ) (n : ℕ) (e : Entry) → IsEntry file n e → IsEntry file (n + 1) e
 later file n e is = record { symbol = is.symbol; within = (let h = is.within in omega arith); function = is.function; is = is.is }
 
-pub one_entered : (file : List ℕ) (entries new : List Entry) (n : ℕ) (e : Entry) → is_function_symbol file n ≡ true → entry_from (symbol_at file n) ≡ e → new ≡ entries ++ e ∷ []
+pub one_entered : (file : List ℕ) (entries new : List Entry) (n : ℕ) (e : Entry) → is_function_symbol file n ≡ true
+    → entry_from (symbol_at file n) ≡ e → new ≡ entries ++ e ∷ []
     → AreEntries file n entries → AreEntries file (n + 1) new
 one_entered file entries new n e function same is are = subst (AreEntries file (n + 1)) (sym is) (record {
   each = λ x c. ⊎_elim
@@ -242,7 +258,8 @@ one_entered file entries new n e function same is are = subst (AreEntries file (
       (Contains-push_cases entries e x c);
   all = λ k lt is. ⊎_elim
       (λ below. Contains-append_left entries (e ∷ []) (entry_from (symbol_at file k)) (are.all k below is))
-      (λ ge. let q : n ≡ k = omega arith in subst (Contains (entries ++ e ∷ [])) (sym same ∙ ap (λ (i : ℕ). entry_from (symbol_at file i)) q) (Contains-push entries e))
+      (λ ge. let q : n ≡ k = omega arith in subst (Contains (entries ++ e ∷ []))
+      (sym same ∙ ap (λ (i : ℕ). entry_from (symbol_at file i)) q) (Contains-push entries e))
       (cases_lt k n);
 })
 
@@ -256,6 +273,7 @@ none_more file entries n out are = record {
 }
 
 -- the entries in order are those that were there
-pub entered_in_order : (file : List ℕ) (n : ℕ) (old new : List Entry) → ((e : Entry) → Contains old e → Contains new e) → ((e : Entry) → Contains new e → Contains old e)
+pub entered_in_order : (file : List ℕ) (n : ℕ) (old new : List Entry) → ((e : Entry) → Contains old e → Contains new e)
+    → ((e : Entry) → Contains new e → Contains old e)
     → AreEntries file n old → AreEntries file n new
 entered_in_order file n old new keeps adds_none are = record { each = λ e c. are.each e (adds_none e c); all = λ k lt is. keeps _ (are.all k lt is) }

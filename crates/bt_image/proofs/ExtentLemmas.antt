@@ -1,5 +1,6 @@
 -- The extents of functions.
-use Rattle.std.proofs.Common.{◌≡◌, ℕ, ◌+◌, ◌-◌, ◌%◌, ◌<◌, ◌≤◌, ◌⊎◌, inl, inr, Bool, true, false, ◌&&◌, List, length, get_or, Contains, Option, Some, None, refl, sym, ◌∙◌, ap, subst, arith, ⊎_elim}
+use Rattle.std.proofs.Common.{◌≡◌, ℕ, ◌+◌, ◌-◌, ◌%◌, ◌<◌, ◌≤◌, ◌⊎◌, inl, inr, Bool, true, false, ◌&&◌, List, length}
+use Rattle.std.proofs.Common.{get_or, Contains, Option, Some, None, refl, sym, ◌∙◌, ap, subst, arith, ⊎_elim}
 use Rattle.std.specs.Prelude.{◌==◌, is_some}
 use Rattle.std.specs.Option.{option_map}
 use Rattle.std.specs.List.Sorted.{IsNonDecreasing}
@@ -49,12 +50,15 @@ code_holder file a items (Some s) table h code = by (is_code_section s) refl
     e : holder is_code_section file a 4 ≡ filtered is_code_section (Some s)
     e = holder_is is_code_section file a 4 items (Some s) (omega arith) (asks_loaded Code) table h
 
-    by : (b : Bool) → is_code_section s ≡ b → (t : Section) × (Some s ≡ Some t) × (holder is_code_section file a 4 ≡ Some t) × (t.address ≤ a) × (a + 4 ≤ t.address + t.size)
+    by : (b : Bool) → is_code_section s ≡ b → (t : Section) × (Some s ≡ Some t) × (holder is_code_section file a 4 ≡ Some t)
+        × (t.address ≤ a) × (a + 4 ≤ t.address + t.size)
     by true q = let m = holds_means s a 4 h.1 in (let f : filtered is_code_section (Some s) ≡ Some s = rw q refl in (s, refl, e ∙ f, m.0, m.1))
-    by false q = absurd (let f : filtered is_code_section (Some s) ≡ None = rw q refl in let c = code_held file a code in let d = sym (ap is_some (e ∙ f)) ∙ c in false≢true d)
+    by false q = absurd (let f : filtered is_code_section (Some s) ≡ None = rw q refl in let c = code_held file a code in let d =
+        sym (ap is_some (e ∙ f)) ∙ c in false≢true d)
 
 -- the extent, from the functions on both sides of an address
-pub extent_from : (file : List ℕ) (a place low high : ℕ) (s : Section) (xs : List ℕ) → holder is_code_section file a 4 ≡ Some s → s.address ≤ a → a + 4 ≤ s.address + s.size
+pub extent_from : (file : List ℕ) (a place low high : ℕ) (s : Section) (xs : List ℕ) → holder is_code_section file a 4 ≡ Some s
+    → s.address ≤ a → a + 4 ≤ s.address + s.size
     → xs ≡ functions file → place ≤ length xs → ((k : ℕ) → k < place → get_or xs k 0 ≤ a) → ((k : ℕ) → place ≤ k → k < length xs → a < get_or xs k 0)
     → Rise xs → IsStart xs place s.address low → IsEnd xs place (s.address + s.size) high → IsExtent file a low high
 extent_from file a place low high s xs code from to same within below above rise start end = record {
@@ -65,7 +69,8 @@ extent_from file a place low high s xs code from to same within below above rise
     ⊎_elim (λ e. omega arith) (λ f. let b = below f.0 f.1 in let q = f.2 in omega arith) start.one,
     ⊎_elim (λ e. omega arith) (λ f. let b = above place (omega arith) f.0 in let q = f.1 in omega arith) end.one,
   );
-  starts = ⊎_elim (λ e. inl e) (λ f. inr (subst (λ ys. Contains ys low) same (f.0, (let h = f.1 in omega arith), get_or_default xs f.0 low 0 (let h = f.1 in omega arith) ∙ f.2))) start.one;
+  starts = ⊎_elim (λ e. inl e) (λ f. inr (subst (λ ys. Contains ys low) same
+      (f.0, (let h = f.1 in omega arith), get_or_default xs f.0 low 0 (let h = f.1 in omega arith) ∙ f.2))) start.one;
   ends = ⊎_elim (λ e. inl e) (λ f. inr (subst (λ ys. Contains ys high) same (place, f.0, get_or_default xs place high 0 f.0 ∙ f.1))) end.one;
   none = λ f c. none f (subst (λ ys. Contains ys f) (sym same) c);
 }

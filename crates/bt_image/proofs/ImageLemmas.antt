@@ -1,8 +1,10 @@
 -- The first refusal of a file, step by step, and what an image keeps.
-use Rattle.std.proofs.Common.{◌≡◌, ℕ, List, length, Option, Some, None, refl, sym, ◌∙◌, ap, subst}
+use Rattle.std.proofs.Common.{◌≡◌, ℕ, ◌<◌, List, length, All, Option, Some, None, refl, sym, ◌∙◌, ap, subst}
+use Rattle.std.proofs.lemmas.List.Elements.{All-from_get_or}
 use Rattle.std.specs.BTreeMap.{BTreeMap, keys}
+use Rattle.std.specs.Prelude.{slice_index}
 use Rattle.std.specs.Option.{option_or}
-use Rattle.bt_image.specs.Checked.{IsChecked, IsImage}
+use Rattle.bt_image.specs.Checked.{IsAccepted, IsChecked, IsImage}
 use Rattle.bt_image.specs.Entry.{AreEntries, AreInOrder}
 use Rattle.bt_image.specs.Extent.{Rise}
 use Rattle.bt_image.specs.File.{section_count}
@@ -53,16 +55,36 @@ pub refused_none : (file : List ℕ) → checked_refusal file ≡ None → overl
 unfolding first_refusal
 refused_none file c o s l = rw (c, o, s, l) refl
 
+-- bytes that fit are below 256
+pub all_fit : (file : List ℕ) → ((k : ℕ) → slice_index file k < 256) → All (λ byte. byte < 256) file
+all_fit file fit = All-from_get_or (λ byte. byte < 256) file 0 (λ i within. fit i)
+
 -- the tables of an image, over a copy of the bytes
-pub is_image : (file copy : List ℕ) (number : Option ℕ) (loaded code : List Section) (addresses : List ℕ) (names : BTreeMap ℕ Name) (entries : List Entry) (labels taken : List ℕ)
-    → IsChecked file number → symbols_refusal file ≡ None → AreLoaded file (section_count file) loaded → IsCodeTable loaded (length loaded) code
+pub is_image : (file copy : List ℕ) (number : Option ℕ) (loaded code : List Section) (addresses : List ℕ) (names : BTreeMap ℕ Name)
+    (entries : List Entry) (labels taken : List ℕ) → IsAccepted file → IsChecked file number → symbols_refusal file ≡ None
+    → AreLoaded file (section_count file) loaded → IsCodeTable loaded (length loaded) code
     → addresses ≡ keys names → Rise addresses → AreNames file (symbol_strings file) (symbol_count file) names
     → AreEntries file (symbol_count file) entries → AreInOrder (symbol_strings file) entries
-    → AreExactly (IsLabel file) labels → AreExactly (IsTaken file) taken → copy ≡ file → IsImage copy number loaded code addresses names entries labels taken
+    → AreExactly (IsLabel file) labels → AreExactly (IsTaken file) taken → copy ≡ file
+    → IsImage copy number loaded code addresses names entries labels taken
 unfolding functions
-is_image file copy number loaded code addresses names entries labels taken checked sound table instructions starts rise are symbols_of_names order targets pointers same =
+is_image file copy number loaded code addresses names entries labels taken accepted checked sound table instructions starts rise are
+    symbols_of_names order targets pointers same =
     subst (λ f. IsImage f number loaded code addresses names entries labels taken) (sym same)
-    (record { checked = checked; symbols = sound; memory = table; instructions = instructions; starts = starts ∙ are.keys; rise = rise; naming = are; symbols_of_names = symbols_of_names; order = order; targets = targets; pointers = pointers })
+    (record {
+      accepted = accepted;
+      checked = checked;
+      symbols = sound;
+      memory = table;
+      instructions = instructions;
+      starts = starts ∙ are.keys;
+      rise = rise;
+      naming = are;
+      symbols_of_names = symbols_of_names;
+      order = order;
+      targets = targets;
+      pointers = pointers;
+    })
 
 -- the addresses of the functions are the keys of their names
 pub addresses_are : (file addresses : List ℕ) (names : BTreeMap ℕ Name) → addresses ≡ keys names → AreNames file (symbol_strings file) (symbol_count file) names

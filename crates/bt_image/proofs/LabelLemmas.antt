@@ -1,5 +1,6 @@
 -- The labels of a file, and its functions whose entries stand in words.
-use Rattle.std.proofs.Common.{◌≡◌, ℕ, zero, suc, ◌<◌, ◌≤◌, Bool, true, false, cond, List, [], ◌∷◌, length, get_or, All, Contains, refl, sym, ◌∙◌, subst, arith, if◌then◌else◌}
+use Rattle.std.proofs.Common.{◌≡◌, ℕ, zero, suc, ◌<◌, ◌≤◌, Bool, true, false, cond, List, [], ◌∷◌, length, get_or, All}
+use Rattle.std.proofs.Common.{Contains, refl, sym, ◌∙◌, subst, arith, if◌then◌else◌}
 use Rattle.std.specs.Prelude.{◌==◌, nat_lt}
 use Rattle.std.proofs.lemmas.List.{get_or_default}
 use Rattle.std.proofs.lemmas.List.Elements.{All-nil, All-cons, All-head, All-tail, All-contains}
@@ -41,7 +42,8 @@ unfolding functions
 function_code file a c = All-contains (λ x. is_code file x ≡ true) (functions_among file (symbol_count file)) a (all_code file (symbol_count file)) c
 
 -- the functions that stand among the code addresses in words are those that are taken
-pub exactly_taken : (file addresses values found : List ℕ) (n : ℕ) → addresses ≡ functions file → AreExactly (IsCodeIn (test_of Loaded) file) values → length addresses ≤ n
+pub exactly_taken : (file addresses values found : List ℕ) (n : ℕ) → addresses ≡ functions file
+    → AreExactly (IsCodeIn (test_of Loaded) file) values → length addresses ≤ n
     → AreShared addresses values n found → AreExactly (IsTaken file) found
 exactly_taken file addresses values found n same are le shared = record {
   rise = shared.rise;

@@ -12,7 +12,8 @@ use Rattle.bt_image.specs.declared.refusal.Counted.TheVariants.{Functions}
 use Rattle.bt_image.specs.declared.refusal.ImageRefusal.TheVariants.{Limit}
 
 -- as many as the map of names has keys
-length-functions : (file strings : List ℕ) (names : BTreeMap ℕ Name) → AreNames file strings (symbol_count file) names → length (functions file) ≡ btree_map_len names
+length-functions : (file strings : List ℕ) (names : BTreeMap ℕ Name) → AreNames file strings (symbol_count file) names
+    → length (functions file) ≡ btree_map_len names
 unfolding functions
 length-functions file strings names are = ap length (sym are.keys) ∙ length-map names.entries (λ (e : ℕ × Name). e.0)
 

@@ -1,5 +1,7 @@
 -- The section in which bytes stand, found in a table of the loaded sections.
-use Rattle.std.proofs.Common.{◌≡◌, ℕ, ◌+◌, ◌<◌, ◌≤◌, ◌⊎◌, inl, inr, Bool, true, false, ◌&&◌, ◌||◌, not, take, drop, List, length, get_or, Contains, Option, Some, None, refl, sym, ◌∙◌, ap, subst, arith, ⊎_elim, if◌then◌else◌}
+use Rattle.std.proofs.Common.{◌≡◌, ℕ, ◌+◌, ◌<◌, ◌≤◌, ◌⊎◌, inl, inr, Bool, true, false, ◌&&◌, ◌||◌, not, take, drop}
+use Rattle.std.proofs.Common.{List, length, get_or, Contains, Option, Some, None, refl, sym, ◌∙◌, ap, subst, arith}
+use Rattle.std.proofs.Common.{⊎_elim, if◌then◌else◌}
 use Rattle.std.specs.List.Sorted.{IsNonDecreasingBy}
 use Rattle.std.specs.Option.{option_map}
 use Rattle.std.proofs.lemmas.Bool.{cases_lt, cases_eq, false≢true}
@@ -69,7 +71,8 @@ none_beside test a n s h = by (test s) refl
     by false e = rw e refl
 
 -- what stands in a section, by cases on the test and the place
-pub holding_cases : (test : Section → Bool) (a n : ℕ) (s : Section) → (holding test a n s ≡ None) ⊎ ((test s ≡ true) × (holds s a n ≡ true) × (holding test a n s ≡ Some s))
+pub holding_cases : (test : Section → Bool) (a n : ℕ) (s : Section) → (holding test a n s ≡ None)
+    ⊎ ((test s ≡ true) × (holds s a n ≡ true) × (holding test a n s ≡ Some s))
 holding_cases test a n s = by (test s) refl
   where
     at : (b : Bool) → test s ≡ true → holds s a n ≡ b → (holding test a n s ≡ None) ⊎ ((test s ≡ true) × (holds s a n ≡ true) × (holding test a n s ≡ Some s))
@@ -87,7 +90,8 @@ same_found : (test : Section → Bool) (file : List ℕ) (a n k : ℕ) (items : 
 same_found test file a n k items s some only table cs hs lt =
     ⊎_elim
     (λ none. inl none)
-    (λ h. let e = same_holder items (section_at file k) s a n some table.apart (table.all k lt (only (section_at file k) h.0)) cs h.1 hs in inr (e, h.2 ∙ ap (λ (x : Section). Some x) e))
+    (λ h. let e = same_holder items (section_at file k) s a n some table.apart
+    (table.all k lt (only (section_at file k) h.0)) cs h.1 hs in inr (e, h.2 ∙ ap (λ (x : Section). Some x) e))
     (holding_cases test a n (section_at file k))
 
 -- the section that passes a test and holds the bytes is the one that the table has, where that passes the test
@@ -99,7 +103,8 @@ holder_is test file a n items None some only table h =
     first_of-none (λ k. holding test a n (section_at file k)) (section_count file) (λ k lt.
     ⊎_elim
     (λ none. none)
-    (λ p. let c = table.all k lt (only (section_at file k) p.0) in let no = subst (λ x. holds x a n ≡ false) c.2 (h c.0 (section_at file k) c.1) in absurd (false≢true (sym no ∙ p.1)))
+    (λ p. let c = table.all k lt (only (section_at file k) p.0) in let no =
+    subst (λ x. holds x a n ≡ false) c.2 (h c.0 (section_at file k) c.1) in absurd (false≢true (sym no ∙ p.1)))
     (holding_cases test a n (section_at file k)))
 holder_is test file a n items (Some s) some only table h =
     by (test s) refl
@@ -114,7 +119,8 @@ holder_is test file a n items (Some s) some only table h =
         ∙ sym (rw e refl)
     by false e =
         first_of-none (λ k. holding test a n (section_at file k)) (section_count file)
-        (λ k lt. ⊎_elim (λ none. none) (λ p. ap (holding test a n) p.0 ∙ none_failing test a n s e) (same_found test file a n k items s some only table h.0 h.1 lt))
+        (λ k lt. ⊎_elim (λ none. none) (λ p. ap (holding test a n) p.0 ∙ none_failing test a n s e)
+        (same_found test file a n k items s some only table h.0 h.1 lt))
         ∙ sym (rw e refl)
 
 -- only loaded sections are asked for

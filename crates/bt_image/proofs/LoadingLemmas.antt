@@ -1,5 +1,7 @@
 -- The making of a table of the loaded sections.
-use Rattle.std.proofs.Common.{◌≡◌, ℕ, ◌+◌, ◌-◌, ◌<◌, ◌≤◌, ◌%◌, ◌⊎◌, inl, inr, Bool, true, false, not, ◌&&◌, ◌||◌, cond, List, [], length, get_or, All, Contains, Option, Some, None, IsSome, nat_lt, refl, sym, ◌∙◌, ap, subst, arith, ⊎_elim}
+use Rattle.std.proofs.Common.{◌≡◌, ℕ, ◌+◌, ◌-◌, ◌<◌, ◌≤◌, ◌%◌, ◌⊎◌, inl, inr, Bool, true, false, not, ◌&&◌, ◌||◌, cond}
+use Rattle.std.proofs.Common.{List, [], length, get_or, All, Contains, Option, Some, None, IsSome, nat_lt, refl, sym}
+use Rattle.std.proofs.Common.{◌∙◌, ap, subst, arith, ⊎_elim}
 use Rattle.std.specs.Prelude.{◌==◌}
 use Rattle.std.specs.List.{insert}
 use Rattle.std.proofs.lemmas.Bool.{cases_lt, cases_eq, false≢true}
@@ -50,12 +52,20 @@ comes_from items place s k d le lt =
     (λ eq. inr (inl (eq, ap (λ (j : ℕ). get_or (insert items place s) j d) eq ∙ get_or-insert_at items place s d le)))
     (λ ne.
     let e : k ≡ (k - 1) + 1 = omega arith in
-    inr (inr (k - 1, e, omega arith, omega arith, ap (λ (j : ℕ). get_or (insert items place s) j d) e ∙ get_or-insert_above items place s d (k - 1) (omega arith) le)))
+    inr (inr (
+      k - 1,
+      e,
+      omega arith,
+      omega arith,
+      ap (λ (j : ℕ). get_or (insert items place s) j d) e
+          ∙ get_or-insert_above items place s d (k - 1) (omega arith) le,
+    )))
     (cases_eq k place))
     (cases_lt k place)
 
 -- what holds of each element of a list, and of one more, holds of each once that is put in
-pub all-insert : (P : Section → Type 0) (items : List Section) (place : ℕ) (s : Section) → place ≤ length items → All P items → P s → All P (insert items place s)
+pub all-insert : (P : Section → Type 0) (items : List Section) (place : ℕ) (s : Section) → place ≤ length items → All P items → P s
+    → All P (insert items place s)
 all-insert P items place s le all here = λ k d lt.
     ⊎_elim
     (λ before. subst P (sym before.1) (all k d (omega arith)))
@@ -146,7 +156,8 @@ shares_last items place s le some below last =
     (t, (place - 1, (let h = last.0 in omega arith), get_or_default items (place - 1) t s (let h = last.0 in omega arith)), grind (arith, nat_tests))
 
 pub shares_next : (items : List Section) (place : ℕ) (s : Section) → place ≤ length items
-    → ((k : ℕ) (d : Section) → place ≤ k → k < length items → s.address < (get_or items k d).address) → NextBeginsBelow items place (s.address + s.size) → SharesWith items s
+    → ((k : ℕ) (d : Section) → place ≤ k → k < length items → s.address < (get_or items k d).address)
+    → NextBeginsBelow items place (s.address + s.size) → SharesWith items s
 shares_next items place s le above next =
     let t = get_or items place s in
     let b = above place s (omega arith) next.0 in
@@ -195,7 +206,15 @@ whole_from_check file n sound lt loaded =
 
 -- the table with one more section of the file looked at
 more_whole : (file : List ℕ) (n : ℕ) (s : Section) → IsWhole file n s → IsWhole file (n + 1) s
-more_whole file n s w = record { number = w.number; below = omega (arith, w.below); is = w.is; loaded = w.loaded; inside = w.inside; fits = w.fits; aligned = w.aligned }
+more_whole file n s w = record {
+  number = w.number;
+  below = omega (arith, w.below);
+  is = w.is;
+  loaded = w.loaded;
+  inside = w.inside;
+  fits = w.fits;
+  aligned = w.aligned;
+}
 
 pub loaded_added : (file : List ℕ) (n place : ℕ) (items : List Section) → AreLoaded file n items → IsWhole file (n + 1) (section_at file n)
     → IsPlaceFor items (section_at file n) place → AreLoaded file (n + 1) (insert items place (section_at file n))
@@ -204,11 +223,13 @@ loaded_added file n place items table whole fits = record {
   whole = all-insert (IsWhole file (n + 1)) items place (section_at file n) fits.within (λ k d lt. more_whole file n _ (table.whole k d lt)) whole;
   all = λ k lt loaded. ⊎_elim
       (λ below. stays_in items place (section_at file n) (section_at file k) fits.within (table.all k below loaded))
-      (λ ge. let e : n ≡ k = omega arith in subst (λ (j : ℕ). Contains (insert items place (section_at file n)) (section_at file j)) e (put_in items place (section_at file n) fits.within))
+      (λ ge. let e : n ≡ k = omega arith in subst (λ (j : ℕ). Contains (insert items place (section_at file n)) (section_at file j))
+      e (put_in items place (section_at file n) fits.within))
       (cases_lt k n);
 }
 
-pub loaded_skipped : (file : List ℕ) (n : ℕ) (items : List Section) → AreLoaded file n items → is_loaded (section_at file n) ≡ false → AreLoaded file (n + 1) items
+pub loaded_skipped : (file : List ℕ) (n : ℕ) (items : List Section) → AreLoaded file n items → is_loaded (section_at file n) ≡ false
+    → AreLoaded file (n + 1) items
 loaded_skipped file n items table out = record {
   apart = table.apart;
   whole = λ k d lt. more_whole file n _ (table.whole k d lt);
@@ -222,7 +243,8 @@ pub loaded_none : (file : List ℕ) → AreLoaded file 0 []
 loaded_none file = record { apart = λ i j d lt jlt. absurd (omega arith); whole = λ k d lt. absurd (omega arith); all = λ k lt loaded. absurd (omega arith) }
 
 -- no two of the first n sections overlap
-overlap_from_share : (file : List ℕ) (a b : ℕ) → is_loaded (section_at file a) ≡ true → share (section_at file a) (section_at file b) ≡ false → overlap file a b ≡ None
+overlap_from_share : (file : List ℕ) (a b : ℕ) → is_loaded (section_at file a) ≡ true
+    → share (section_at file a) (section_at file b) ≡ false → overlap file a b ≡ None
 unfolding overlap
 overlap_from_share file a b loaded apart = by (nat_lt a b) (is_loaded (section_at file b)) refl refl
   where
@@ -327,7 +349,8 @@ step_added file n place items held new s sound lt loaded is same fits put table 
     let here : IsPlaceFor items (section_at file n) place =
     subst (λ xs. IsPlaceFor xs (section_at file n) place) same (subst (λ (t : Section). IsPlaceFor held t place) is fits) in
     let ld : is_loaded (section_at file n) ≡ true = ap is_loaded (sym is) ∙ loaded in (
-      subst (AreLoaded file (n + 1)) (sym (put ∙ ap (insert items place) is)) (loaded_added file n place items table (whole_from_check file n sound lt ld) here),
+      subst (AreLoaded file (n + 1)) (sym (put ∙ ap (insert items place) is))
+          (loaded_added file n place items table (whole_from_check file n sound lt ld) here),
       clear_added file n place items table here clear,
     )
 

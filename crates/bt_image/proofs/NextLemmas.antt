@@ -1,5 +1,7 @@
 -- The next code address.
-use Rattle.std.proofs.Common.{◌≡◌, ℕ, ◌+◌, ◌-◌, ◌*◌, ◌/◌, ◌%◌, ◌<◌, ◌≤◌, ◌⊎◌, inl, inr, Bool, true, false, ◌&&◌, List, [], ◌∷◌, ◌++◌, length, get_or, All, Contains, Option, Some, None, refl, sym, ◌∙◌, ap, subst, eq-eqb, arith, ⊎_elim}
+use Rattle.std.proofs.Common.{◌≡◌, ℕ, ◌+◌, ◌-◌, ◌*◌, ◌/◌, ◌%◌, ◌<◌, ◌≤◌, ◌⊎◌, inl, inr, Bool, true, false, ◌&&◌, List}
+use Rattle.std.proofs.Common.{[], ◌∷◌, ◌++◌, length, get_or, All, Contains, Option, Some, None, refl, sym, ◌∙◌, ap}
+use Rattle.std.proofs.Common.{subst, eq-eqb, arith, ⊎_elim}
 use Rattle.std.specs.Prelude.{◌==◌, is_some, nat_le}
 use Rattle.std.proofs.lemmas.Bool.{cases_lt, cases_eq, false≢true}
 use Rattle.std.proofs.lemmas.Bool.Decides.{nat_tests}
@@ -155,13 +157,15 @@ next_there items place a x e is apart words lt above none =
       place = place;
       within = lt;
       begins = λ d. (let same = get_or_default items place d e lt in let b = ap (λ (s : Section). s.address) same in omega arith);
-      ends = λ d. (let same = get_or_default items place d e lt in let b = ap (λ (s : Section). s.address) same in let c = ap (λ (s : Section). s.size) same in omega arith);
+      ends = λ d. (let same = get_or_default items place d e lt in let b = ap (λ (s : Section). s.address) same in let c =
+          ap (λ (s : Section). s.size) same in omega arith);
       least = λ y ay yx m k d klt low high.
           (let xy : x ≤ y = subst (λ (n : ℕ). n ≤ y) (sym is) (up_least a y ay m) in
           ⊎_elim
           (λ before. let h = none k d before in omega arith)
           (λ ge. ⊎_elim
-          (λ same. let f = ap (λ (i : ℕ). (get_or items i d).address) same in let g = ap (λ (s : Section). s.address) (get_or_default items place d e lt) in omega arith)
+          (λ same. let f = ap (λ (i : ℕ). (get_or items i d).address) same in let g =
+          ap (λ (s : Section). s.address) (get_or_default items place d e lt) in omega arith)
           (λ ne. let h = apart place k e (omega arith) klt in let g = ap (λ (s : Section). s.address) (get_or_default items k d e klt) in omega arith)
           (cases_eq k place))
           (cases_lt k place));
@@ -188,7 +192,8 @@ word_no s b e h code big =
     false≢true (sym h ∙ e ∙ f)
 
 -- each section of the table begins at a multiple of 4, has a word, and is within memory
-pub have_words : (file : List ℕ) (loaded items : List Section) → AreLoaded file (section_count file) loaded → IsCodeTable loaded (length loaded) items → All HasWord items
+pub have_words : (file : List ℕ) (loaded items : List Section) → AreLoaded file (section_count file) loaded
+    → IsCodeTable loaded (length loaded) items → All HasWord items
 have_words file loaded items table code = λ k d lt.
     let p = code.each k d lt in
     let w = whole_member file (section_count file) loaded (get_or items k d) table p.0 in
@@ -216,7 +221,8 @@ code_in_table file loaded items y table code is =
         let m0 = m.0 in let m1 = m.1 in
         let here : get_or loaded c.0 (section_at file f.0) ≡ section_at file f.0 = c.2 in
         let i = code.all c.0 (section_at file f.0) c.1 (ap is_code_section here ∙ h.0) (let z = ap (λ (x : Section). x.size) here in omega arith) in
-        let at : get_or items i.0 (section_at file f.0) ≡ section_at file f.0 = get_or_default items i.0 (section_at file f.0) (get_or loaded c.0 (section_at file f.0)) i.1 ∙ i.2 ∙ here in
+        let at : get_or items i.0 (section_at file f.0) ≡ section_at file f.0 =
+        get_or_default items i.0 (section_at file f.0) (get_or loaded c.0 (section_at file f.0)) i.1 ∙ i.2 ∙ here in
         let a = ap (λ (x : Section). x.address) at in
         let b = ap (λ (x : Section). x.size) at in
         none i.0 (section_at file f.0) i.1 (omega arith) (omega arith))
@@ -231,7 +237,8 @@ none_code file loaded items y table code none = by (is_code file y) refl
     by true e = let p = code_in_table file loaded items y table code e in absurd (p.1 (none p.0))
 
 -- the next word of the table is the next code address
-pub next_code_from : (file : List ℕ) (loaded items : List Section) (a x : ℕ) → AreLoaded file (section_count file) loaded → IsCodeTable loaded (length loaded) items
+pub next_code_from : (file : List ℕ) (loaded items : List Section) (a x : ℕ) → AreLoaded file (section_count file) loaded
+    → IsCodeTable loaded (length loaded) items
     → IsNextWord items a x → IsNextCode file a x
 next_code_from file loaded items a x table code next = record {
   above = next.above;

@@ -1,5 +1,7 @@
 -- Numbers that rise.
-use Rattle.std.proofs.Common.{◌≡◌, ℕ, ◌+◌, ◌-◌, ◌<◌, ◌≤◌, List, [], ◌∷◌, ◌++◌, length, get_or, take, drop, All, Contains, ◌↔◌, true, Result, Ok, Err, is_ok, nat_cmp, refl, sym, ◌∙◌, ap, subst, arith, ⊎_elim}
+use Rattle.std.proofs.Common.{◌≡◌, ℕ, ◌+◌, ◌-◌, ◌<◌, ◌≤◌, List, [], ◌∷◌, ◌++◌, length, get_or, take, drop, All}
+use Rattle.std.proofs.Common.{Contains, ◌↔◌, true, Result, Ok, Err, is_ok, nat_cmp, refl, sym, ◌∙◌, ap, subst, arith}
+use Rattle.std.proofs.Common.{⊎_elim}
 use Rattle.std.specs.List.Sorted.{IsStrictlyIncreasing, IsBinarySearchResult}
 use Rattle.std.proofs.lemmas.Bool.{cases_lt, false≢true}
 use Rattle.std.proofs.lemmas.List.{get_or_default, get_or-take, get_or-drop, length-drop, length-take-le, get_or_append_left, get_or_push, length_push}
@@ -89,7 +91,8 @@ shared_added xs ys found new i rise lt has is are = subst (AreShared xs ys (i + 
       (λ below. let a = get_or_append_left found (x ∷ []) 0 k below in let h = are.before k j below (omega arith) jlt in omega arith)
       (λ ge. let e : length found ≡ k = omega arith in let a = get_or_push found x 0 k e in omega arith)
       (cases_lt k (length found)));
-  each = λ a c. ⊎_elim (λ old. are.each a old) (λ e. (subst (Contains xs) e (Contains-get_or xs i 0 lt), subst (Contains ys) e has)) (Contains-push_cases found x a c);
+  each = λ a c. ⊎_elim (λ old. are.each a old) (λ e. (subst (Contains xs) e (Contains-get_or xs i 0 lt), subst (Contains ys) e has))
+      (Contains-push_cases found x a c);
   all = λ j jlt c. ⊎_elim
       (λ below. Contains-append_left found (x ∷ []) (get_or xs j 0) (are.all j below c))
       (λ ge. let e : i ≡ j = omega arith in subst (λ (m : ℕ). Contains (found ++ x ∷ []) (get_or xs m 0)) e (Contains-push found x))

@@ -1,5 +1,5 @@
 -- What stands at the addresses of a file that was accepted: each byte in one section.
-use Rattle.std.proofs.Common.{◌≡◌, ℕ, ◌+◌, ◌-◌, ◌%◌, ◌==◌, ◌<◌, ◌≤◌, ◌⊎◌, inl, inr, Bool, true, false, ◌&&◌, ◌||◌, not, zero, suc}
+use Rattle.std.proofs.Common.{◌≡◌, ℕ, ◌+◌, ◌-◌, ◌%◌, ◌^◌, ◌==◌, ◌<◌, ◌≤◌, ◌⊎◌, inl, inr, Bool, true, false, ◌&&◌, ◌||◌, not, zero, suc}
 use Rattle.std.proofs.Common.{take, drop, List, [], ◌∷◌, length, get_or, Option, Some, None, is_some, refl, sym, ◌∙◌, ap, subst, arith, ⊎_elim}
 use Rattle.std.specs.Option.{option_map}
 use Rattle.std.proofs.lemmas.Bool.{cases_lt, eqb-true, false≢true}
@@ -13,7 +13,7 @@ use Rattle.bt_image.specs.Least.{first_of}
 use Rattle.bt_image.specs.Refusal.{checked_refusal, first_refusal, overlap, overlap_refusal, sections_refusal}
 use Rattle.bt_image.specs.Section.{section_at, is_loaded, is_code_section, is_executable, is_read_only_section, is_writable, holds, share, test_of}
 use Rattle.bt_image.specs.declared.section.Access.{Access}
-use Rattle.bt_image.specs.declared.section.Access.TheVariants.{ReadOnly}
+use Rattle.bt_image.specs.declared.section.Access.TheVariants.{Code, ReadOnly}
 use Rattle.bt_image.specs.declared.section.Section.{Section}
 use Rattle.bt_image.proofs.LeastLemmas.{first_of-found, first_of-only, none_below, or_none}
 use Rattle.bt_image.proofs.LoadedLemmas.{asks_loaded, holding_cases, holds_means}
@@ -189,3 +189,19 @@ code_reads image a code =
     by true None other e h r = absurd (false≢true (let no : false ≡ is_code image a = sym (rw (e, h) refl) in no ∙ code))
     by true (Some s) None e h r = absurd (read_only_found image a s (found_at is_code_section image a 4 s h) r)
     by true (Some s) (Some t) e h r = (word_field (take 4 (drop (place_in t a) image)) 0, rw (e, r) refl)
+
+-- a word of code ends within memory, as its section does
+pub code_fits : (image : List ℕ) (a : ℕ) → first_refusal image ≡ None → is_code image a ≡ true → a + 4 ≤ 2 ^ 32
+unfolding held
+code_fits image a ok code = by (a % 4 == 0) (holder is_code_section image a 4) refl refl
+  where
+    by : (even : Bool) (one : Option Section) → (a % 4 == 0) ≡ even → holder is_code_section image a 4 ≡ one → a + 4 ≤ 2 ^ 32
+    by false one e h = absurd (false≢true (let no : false ≡ is_code image a = sym (rw e refl) in no ∙ code))
+    by true None e h = absurd (false≢true (let no : false ≡ is_code image a = sym (rw (e, h) refl) in no ∙ code))
+    by true (Some s) e h =
+        let found = found_at is_code_section image a 4 s h in
+        let whole = whole_from_check image found.number (sections_sound image ok) found.below
+        (asks_loaded Code (section_at image found.number) found.passes) in
+        let fits = whole.fits in
+        let here = holds_means (section_at image found.number) a 4 found.here in
+        omega (arith, here.1, fits)

@@ -1,5 +1,6 @@
 -- The symbol table of a file that passes the checks.
-use Rattle.std.proofs.Common.{◌≡◌, ℕ, ◌+◌, ◌%◌, ◌<◌, ◌≤◌, Bool, true, false, ◌&&◌, ◌||◌, not, cond, List, length, Option, Some, None, refl, sym, ◌∙◌, ap, eq-eqb, arith, ⊎_elim}
+use Rattle.std.proofs.Common.{◌≡◌, ℕ, ◌+◌, ◌%◌, ◌<◌, ◌≤◌, Bool, true, false, ◌&&◌, ◌||◌, not, cond, List, length}
+use Rattle.std.proofs.Common.{Option, Some, None, refl, sym, ◌∙◌, ap, eq-eqb, arith, ⊎_elim}
 use Rattle.std.specs.Prelude.{◌==◌, nat_lt, is_some, IfSome}
 use Rattle.std.specs.List.{list_any}
 use Rattle.std.proofs.lemmas.Bool.{false≢true, cases_lt}
@@ -40,7 +41,8 @@ inside_serving file table n is sound lt serves =
     looked false o e h = absurd (false≢true e)
 
 -- the symbol table is within the file
-pub has_symbols : (file : List ℕ) (n : ℕ) → Some n ≡ symbol_table file → sections_refusal file ≡ None → n < section_count file → HasSymbols file (section_at file n)
+pub has_symbols : (file : List ℕ) (n : ℕ) → Some n ≡ symbol_table file → sections_refusal file ≡ None → n < section_count file
+    → HasSymbols file (section_at file n)
 unfolding symbol_count symbols_start
 has_symbols file n is sound lt = record {
   start = rw (← is) refl;
@@ -94,7 +96,8 @@ within_from_ended strings at h =
     (λ ge. ge)
     (cases_lt (length strings) at)
 
-named_in : (file : List ℕ) (n k : ℕ) → Some n ≡ symbol_table file → symbols_refusal file ≡ None → k < symbol_count file → names_code file (symbol_at file k) ≡ true
+named_in : (file : List ℕ) (n k : ℕ) → Some n ≡ symbol_table file → symbols_refusal file ≡ None → k < symbol_count file
+    → names_code file (symbol_at file k) ≡ true
     → (symbol_at file k).name ≤ length (symbol_strings file)
 unfolding is_unnamed
 named_in file n k is sound lt names =

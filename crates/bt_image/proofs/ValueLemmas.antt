@@ -1,5 +1,7 @@
 -- The code addresses that stand in the words of sections.
-use Rattle.std.proofs.Common.{◌≡◌, ℕ, ◌+◌, ◌*◌, ◌/◌, ◌%◌, ◌<◌, ◌≤◌, inl, inr, Bool, true, false, List, [], ◌∷◌, ◌++◌, length, get_or, set, take, drop, Contains, Option, Some, None, refl, sym, ◌∙◌, ap, subst, eq-eqb, arith, ⊎_elim, replicate, if◌then◌else◌}
+use Rattle.std.proofs.Common.{◌≡◌, ℕ, ◌+◌, ◌*◌, ◌/◌, ◌%◌, ◌<◌, ◌≤◌, inl, inr, Bool, true, false, List, [], ◌∷◌, ◌++◌}
+use Rattle.std.proofs.Common.{length, get_or, set, take, drop, Contains, Option, Some, None, refl, sym, ◌∙◌, ap, subst}
+use Rattle.std.proofs.Common.{eq-eqb, arith, ⊎_elim, replicate, if◌then◌else◌}
 use Rattle.std.specs.Prelude.{◌==◌}
 use Rattle.std.specs.Option.{option_map}
 use Rattle.std.proofs.lemmas.Bool.{cases_lt, cases_eq, false≢true}
@@ -43,7 +45,8 @@ pub noted_code : (file : List ℕ) (at : ℕ) (marks : List Bool) (old new : Lis
     → is_code file (value_at file at) ≡ true → new ≡ old ++ value_at file at ∷ [] → IsNoted file at (set marks at true) old new
 noted_code file at marks old new long seen code is = subst (IsNoted file at (set marks at true) old) (sym is) (record {
   long = length-set marks at true ∙ long;
-  seen = seen_more file at marks old (old ++ value_at file at ∷ []) seen (λ a c. Contains-append_left old (value_at file at ∷ []) a c) (λ h. Contains-push old (value_at file at));
+  seen = seen_more file at marks old (old ++ value_at file at ∷ []) seen
+      (λ a c. Contains-append_left old (value_at file at ∷ []) a c) (λ h. Contains-push old (value_at file at));
   keeps = λ a c. Contains-append_left old (value_at file at ∷ []) a c;
   adds = λ a c. ⊎_elim (λ old. inl old) (λ e. inr (subst (λ (x : ℕ). is_code file x ≡ true) e code, e)) (Contains-push_cases old (value_at file at) a c);
   here = λ h. Contains-push old (value_at file at);
@@ -84,7 +87,8 @@ more_noted file s n before marks first old new low high are one = record {
   all = λ k klow lt code. ⊎_elim
       (λ below. one.keeps _ (are.all k klow below code))
       (λ ge. let e : n ≡ k = omega arith in
-      subst (λ (i : ℕ). Contains new (value_at file (place_in s (4 * i)))) e (one.here (subst (λ (i : ℕ). is_code file (value_at file (place_in s (4 * i))) ≡ true) (sym e) code)))
+      subst (λ (i : ℕ). Contains new (value_at file (place_in s (4 * i)))) e
+      (one.here (subst (λ (i : ℕ). is_code file (value_at file (place_in s (4 * i))) ≡ true) (sym e) code)))
       (cases_lt k n);
 }
 
@@ -109,7 +113,8 @@ word_found access file loaded x a table h = by (x % 4 == 0) refl h
     Found = (s : Section) × Contains loaded s × (test_of access s ≡ true) × IsWordOf file s a
 
     in_section : x % 4 ≡ 0 → (s : Section) → Contains loaded s → test_of access s ≡ true → holds s x 4 ≡ true → value_at file (place_in s x) ≡ a → Found
-    in_section m s has test hs value = let p = holds_means s x 4 hs in (s, has, test, record { place = x; aligned = m; begins = p.0; ends = p.1; value = value })
+    in_section m s has test hs value = let p = holds_means s x 4 hs in
+        (s, has, test, record { place = x; aligned = m; begins = p.0; ends = p.1; value = value })
 
     at : x % 4 ≡ 0 → (o : Option Section) → holder (test_of access) file x 4 ≡ o
         → option_map (λ bytes. word_field bytes 0) (option_map (λ s. take 4 (drop (place_in s x) file)) o) ≡ Some a → Found
@@ -131,7 +136,8 @@ word_found access file loaded x a table h = by (x % 4 == 0) refl h
     by true e h = at (grind (arith, nat_tests)) (holder (test_of access) file x 4) refl h
 
 -- no section was looked at
-pub none_gathered : (test : Section → Bool) (file : List ℕ) (loaded : List Section) (marks : List Bool) (found : List ℕ) → marks ≡ replicate (length file) false → found ≡ []
+pub none_gathered : (test : Section → Bool) (file : List ℕ) (loaded : List Section) (marks : List Bool) (found : List ℕ)
+    → marks ≡ replicate (length file) false → found ≡ []
     → AreGathered test file loaded 0 marks found
 none_gathered test file loaded marks found clear none = subst (AreGathered test file loaded 0 marks) (sym none) (record {
   long = ap length clear ∙ length-replicate (length file) false;
@@ -171,7 +177,8 @@ more_gathered access file loaded i s before marks old new table lt is test are n
         subst (Contains new) v (noted.all (w.place / 4) (omega arith) (omega arith) (subst (λ (x : ℕ). is_code file x ≡ true) (sym v) code))
 
 -- a section that isn't of the kind is passed over
-pub skip_gathered : (test : Section → Bool) (file : List ℕ) (loaded : List Section) (i : ℕ) (s : Section) (marks : List Bool) (found : List ℕ) → i < length loaded → get_or loaded i s ≡ s
+pub skip_gathered : (test : Section → Bool) (file : List ℕ) (loaded : List Section) (i : ℕ) (s : Section) (marks : List Bool)
+    (found : List ℕ) → i < length loaded → get_or loaded i s ≡ s
     → test s ≡ false → AreGathered test file loaded i marks found → AreGathered test file loaded (i + 1) marks found
 skip_gathered test file loaded i s marks found lt is out are = record {
   long = are.long;
@@ -186,7 +193,8 @@ skip_gathered test file loaded i s marks found lt is out are = record {
 }
 
 -- all sections were looked at
-pub all_gathered : (access : Access) (file : List ℕ) (loaded : List Section) (n : ℕ) (marks : List Bool) (found : List ℕ) → AreLoaded file (section_count file) loaded → length loaded ≤ n
+pub all_gathered : (access : Access) (file : List ℕ) (loaded : List Section) (n : ℕ) (marks : List Bool) (found : List ℕ)
+    → AreLoaded file (section_count file) loaded → length loaded ≤ n
     → AreGathered (test_of access) file loaded n marks found → AreValues (test_of access) file found
 all_gathered access file loaded n marks found table le are = record {
   each = are.each;
@@ -195,7 +203,8 @@ all_gathered access file loaded n marks found table le are = record {
 }
 
 -- put in order they are exactly the code addresses in words
-pub exactly_values : (test : Section → Bool) (file : List ℕ) (old new : List ℕ) → AreValues test file old → Rise new → ((a : ℕ) → Contains old a → Contains new a)
+pub exactly_values : (test : Section → Bool) (file : List ℕ) (old new : List ℕ) → AreValues test file old → Rise new
+    → ((a : ℕ) → Contains old a → Contains new a)
     → ((a : ℕ) → Contains new a → Contains old a) → AreExactly (IsCodeIn test file) new
 exactly_values test file old new are rise keeps adds_none = record {
   rise = rise;

@@ -1,5 +1,5 @@
 -- What an image keeps of a file that passed the checks.
-use Rattle.std.specs.Prelude.{◌≡◌, ℕ, ◌<◌, List, length, Option, None, IfSome}
+use Rattle.std.specs.Prelude.{◌≡◌, ℕ, ◌<◌, List, length, All, Option, None, IfSome}
 use Rattle.std.specs.BTreeMap.{BTreeMap}
 use Rattle.bt_image.specs.Entry.{AreEntries, AreInOrder}
 use Rattle.bt_image.specs.Extent.{Rise}
@@ -8,7 +8,7 @@ use Rattle.bt_image.specs.Label.{AreExactly, IsLabel, IsTaken}
 use Rattle.bt_image.specs.Loaded.{AreLoaded}
 use Rattle.bt_image.specs.Names.{AreNames}
 use Rattle.bt_image.specs.NextCode.{IsCodeTable}
-use Rattle.bt_image.specs.Refusal.{HasHeaders, sections_refusal, symbols_refusal}
+use Rattle.bt_image.specs.Refusal.{HasHeaders, first_refusal, sections_refusal, symbols_refusal}
 use Rattle.bt_image.specs.Section.{symbol_table}
 use Rattle.bt_image.specs.Symbol.{functions, symbol_count, symbol_strings}
 use Rattle.bt_image.specs.declared.entry.Entry.{Entry}
@@ -22,9 +22,15 @@ pub record IsChecked (file : List ℕ) (number : Option ℕ) : Type 0 where
   pub table : number ≡ symbol_table file
   pub within : IfSome number (λ n. n < section_count file)
 
+-- a file that was accepted: it has no refusal, and its bytes are below 256
+pub record IsAccepted (file : List ℕ) : Type 0 where
+  pub unrefused : first_refusal file ≡ None
+  pub bytes : All (λ byte. byte < 256) file
+
 -- a file that passed all checks, and its tables
 pub record IsImage (file : List ℕ) (number : Option ℕ) (loaded code : List Section) (addresses : List ℕ) (names : BTreeMap ℕ Name)
     (entries : List Entry) (labels taken : List ℕ) : Type 0 where
+  pub accepted : IsAccepted file
   pub checked : IsChecked file number
   pub symbols : symbols_refusal file ≡ None
   pub memory : AreLoaded file (section_count file) loaded

@@ -39,6 +39,10 @@ loaded_word image a = word_of is_loaded image a
 abbrev pub bytes : List ℕ → ℕ → ℕ → Option (List ℕ)
 bytes image a n = held is_loaded image a n
 
+-- the n bytes from address a on, where they stand in one read-only section
+abbrev pub read_only_bytes : List ℕ → ℕ → ℕ → Option (List ℕ)
+read_only_bytes image a n = held is_read_only_section image a n
+
 -- the byte at the address stands in a read-only section
 abbrev pub is_readonly : List ℕ → ℕ → Bool
 is_readonly image a = is_some (held is_read_only_section image a 1)

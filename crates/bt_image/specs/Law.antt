@@ -1,5 +1,5 @@
 -- What stands at the addresses of an image, as laws.
-use Rattle.std.specs.Prelude.{◌≡◌, ℕ, ◌+◌, ◌%◌, ◌<◌, Bool, true, List, [], ◌∷◌, length, Some, None, slice_index}
+use Rattle.std.specs.Prelude.{◌≡◌, ℕ, ◌+◌, ◌%◌, ◌^◌, ◌<◌, ◌≤◌, Bool, true, List, [], ◌∷◌, length, Some, None, slice_index}
 use Rattle.byteorder.specs.Endian.{big_number}
 use Rattle.bt_image.specs.Image.{held, is_code, word}
 use Rattle.bt_image.specs.Refusal.{first_refusal}
@@ -27,8 +27,13 @@ pub record IsOfReadOnlyBytes (image : List ℕ) (a w : ℕ) : Type 0 where
 
 -- each word that can be read is the big-endian number of four read-only bytes
 abbrev pub WordsAreReadOnly : Type 0
-WordsAreReadOnly = (image : List ℕ) (a w : ℕ) → first_refusal image ≡ None → word image a ≡ Some w → IsOfReadOnlyBytes image a w
+WordsAreReadOnly =
+    (image : List ℕ) (a w : ℕ) → first_refusal image ≡ None → word image a ≡ Some w → IsOfReadOnlyBytes image a w
 
 -- code is read-only: each word of code can be read
 abbrev pub CodeIsReadOnly : Type 0
 CodeIsReadOnly = (image : List ℕ) (a : ℕ) → is_code image a ≡ true → (w : ℕ) × (word image a ≡ Some w)
+
+-- code is in memory: the four bytes of each word of code end at 2^32 at most
+abbrev pub CodeIsInMemory : Type 0
+CodeIsInMemory = (image : List ℕ) (a : ℕ) → first_refusal image ≡ None → is_code image a ≡ true → a + 4 ≤ 2 ^ 32

@@ -1,3 +1,4 @@
+pub mod Abi
 pub mod Checked
 pub mod Entry
 pub mod Extent

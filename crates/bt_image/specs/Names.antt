@@ -25,12 +25,14 @@ better strings (Some old) new = if is_chosen strings new old then new else old
 abbrev pub IsBest : List ℕ → Option (List ℕ) → Option (List ℕ) → Option Name → Type 0
 IsBest strings typed others None = (typed ≡ None) × (others ≡ None)
 IsBest strings typed others (Some name) =
-    (name.at ≤ length strings) × (name.typed ≡ true → typed ≡ Some (text strings name)) × (name.typed ≡ false → (typed ≡ None) × (others ≡ Some (text strings name)))
+    (name.at ≤ length strings) × (name.typed ≡ true → typed ≡ Some (text strings name))
+    × (name.typed ≡ false → (typed ≡ None) × (others ≡ Some (text strings name)))
 
 -- the names of the functions among the first n symbols
 pub record AreNames (file strings : List ℕ) (n : ℕ) (names : BTreeMap ℕ Name) : Type 0 where
   pub keys : keys names ≡ functions_among file n
-  pub best : (a : ℕ) → IsBest strings (least_of is_before (name_for is_typed file a) n) (least_of is_before (name_for is_untyped file a) n) (get nat_cmp names a)
+  pub best : (a : ℕ) → IsBest strings (least_of is_before (name_for is_typed file a) n)
+      (least_of is_before (name_for is_untyped file a) n) (get nat_cmp names a)
 
 -- a symbol as a name of the function at its value
 abbrev pub name_from : Symbol → Name

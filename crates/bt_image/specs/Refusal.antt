@@ -1,7 +1,10 @@
 -- The refusals of a file that is no image, in the order in which they are looked for: each by what it means,
 -- with the least number of a section, or the first pair of sections, that it is true of.
-use Rattle.std.specs.Prelude.{◌==◌, ◌≡◌, ℕ, ◌+◌, ◌*◌, ◌%◌, ◌^◌, ◌<◌, ◌≤◌, Bool, false, not, ◌&&◌, ◌||◌, nat_lt, List, length, Option, Some, None, Result, Ok, Err, is_some, if◌then◌else◌}
+use Rattle.std.specs.Prelude.{◌==◌, ◌≡◌, ℕ, ◌+◌, ◌*◌, ◌%◌, ◌^◌, ◌<◌, ◌≤◌, Bool, false, not, ◌&&◌, ◌||◌, nat_lt}
+use Rattle.std.specs.Prelude.{List, length, Option, Some, None, Result, Ok, Err, is_some, if◌then◌else◌}
 use Rattle.std.specs.Option.{option_or}
+use Rattle.bt_image.specs.Abi.{EI_MAG0, EI_CLASS, EI_DATA, E_TYPE, E_MACHINE, EHDR_SIZE, SHDR_SIZE, SYM_SIZE}
+use Rattle.bt_image.specs.Abi.{ELFMAG, ELFCLASS32, ELFDATA2MSB, ET_EXEC, EM_SPARC, SHT_STRTAB}
 use Rattle.bt_image.specs.File.{byte_field, half_field, word_field, section_headers, header_size, section_count}
 use Rattle.bt_image.specs.Least.{first_of, first_passing}
 use Rattle.bt_image.specs.Section.{section_at, is_loaded, is_code_section, is_compressed, share, symbol_table}
@@ -9,28 +12,29 @@ use Rattle.bt_image.specs.Symbol.{symbol_at, names_code, is_ended, symbol_string
 use Rattle.bt_image.specs.declared.section.Section.{Section}
 use Rattle.bt_image.specs.declared.refusal.Counted.TheVariants.{Sections, Symbols, Functions}
 use Rattle.bt_image.specs.declared.refusal.ImageRefusal.{ImageRefusal}
-use Rattle.bt_image.specs.declared.refusal.ImageRefusal.TheVariants.{Short, Magic, Class, Order, Kind, Machine, HeaderSize, SectionOutside, SectionOverlap, Alignment, SymbolTable, Limit, Compressed, Want}
+use Rattle.bt_image.specs.declared.refusal.ImageRefusal.TheVariants.{Short, Magic, Class, Order, Kind, Machine, HeaderSize}
+use Rattle.bt_image.specs.declared.refusal.ImageRefusal.TheVariants.{SectionOutside, SectionOverlap, Alignment, SymbolTable, Limit, Compressed, Want}
 
 -- the file begins with a header of an executable for SPARC in 32 bits with the highest byte first
 unfoldable pub header_refusal : List ℕ → Option ImageRefusal
 header_refusal file =
-    if nat_lt (length file) 52 then Some (Short 52 (length file))
-    else (if not (word_field file 0 == 0x7f454c46) then Some Magic
-    else (if not (byte_field file 4 == 1) then Some (Class (byte_field file 4))
-    else (if not (byte_field file 5 == 2) then Some (Order (byte_field file 5))
-    else (if not (half_field file 16 == 2) then Some (Kind (half_field file 16))
-    else (if not (half_field file 18 == 2) then Some (Machine (half_field file 18))
+    if nat_lt (length file) EHDR_SIZE then Some (Short EHDR_SIZE (length file))
+    else (if not (word_field file EI_MAG0 == ELFMAG) then Some Magic
+    else (if not (byte_field file EI_CLASS == ELFCLASS32) then Some (Class (byte_field file EI_CLASS))
+    else (if not (byte_field file EI_DATA == ELFDATA2MSB) then Some (Order (byte_field file EI_DATA))
+    else (if not (half_field file E_TYPE == ET_EXEC) then Some (Kind (half_field file E_TYPE))
+    else (if not (half_field file E_MACHINE == EM_SPARC) then Some (Machine (half_field file E_MACHINE))
     else None)))))
 
 -- where the section headers end
 abbrev pub headers_end : List ℕ → ℕ
-headers_end file = section_headers file + 40 * section_count file
+headers_end file = section_headers file + SHDR_SIZE * section_count file
 
 -- where there are sections, their headers are of 40 bytes, not too many, and within the file
 unfoldable pub headers_refusal : List ℕ → Option ImageRefusal
 headers_refusal file =
     if section_count file == 0 then None
-    else (if not (header_size file == 40) then Some (HeaderSize (header_size file))
+    else (if not (header_size file == SHDR_SIZE) then Some (HeaderSize (header_size file))
     else (if nat_lt 1024 (section_count file) then Some (Limit Sections (section_count file))
     else (if nat_lt (length file) (headers_end file) then Some (Short (headers_end file) (length file))
     else None)))
@@ -77,7 +81,9 @@ is_unnamed file k = names_code file (symbol_at file k) && not (is_ended (symbol_
 
 -- the table's symbols are of 16 bytes each, and it links to a section of strings
 abbrev pub is_table : List ℕ → Section → Bool
-is_table file s = (s.entry_size == 16) && ((s.size % 16 == 0) && (nat_lt s.link (section_count file) && ((section_at file s.link).kind == 3)))
+is_table file s =
+    (s.entry_size == SYM_SIZE)
+    && ((s.size % SYM_SIZE == 0) && (nat_lt s.link (section_count file) && ((section_at file s.link).kind == SHT_STRTAB)))
 
 -- what is wrong with a symbol table
 abbrev pub table_refusal : List ℕ → Option ℕ → Option ImageRefusal
@@ -123,6 +129,6 @@ IsStep refusal (Err e) = IsRefusal refusal e
 
 -- the headers of the sections are within the file, and not too many
 pub record HasHeaders (file : List ℕ) : Type 0 where
-  pub long : 52 ≤ length file
+  pub long : EHDR_SIZE ≤ length file
   pub few : section_count file ≤ 1024
-  pub whole : (n : ℕ) → n < section_count file → section_headers file + 40 * n + 40 ≤ length file
+  pub whole : (n : ℕ) → n < section_count file → section_headers file + SHDR_SIZE * n + SHDR_SIZE ≤ length file

@@ -1,9 +1,11 @@
 -- The symbols of an object file, and the functions that they name (System V ABI, "Object Files", "Symbol Table").
-use Rattle.std.specs.Prelude.{◌==◌, ◌≡◌, ℕ, zero, suc, ◌+◌, ◌*◌, ◌/◌, ◌%◌, ◌<◌, ◌≤◌, Bool, true, not, ◌&&◌, ◌||◌, nat_lt, List, [], ◌∷◌, drop, length, bytes_eq, Option, Some, None, if◌then◌else◌}
+use Rattle.std.specs.Prelude.{◌==◌, ◌≡◌, ℕ, zero, suc, ◌+◌, ◌*◌, ◌/◌, ◌%◌, ◌<◌, ◌≤◌, Bool, true, not, ◌&&◌, ◌||◌, nat_lt}
+use Rattle.std.specs.Prelude.{List, [], ◌∷◌, drop, length, bytes_eq, Option, Some, None, if◌then◌else◌}
 use Rattle.std.specs.List.{before_first, list_any}
 use Rattle.std.specs.Option.{option_or, option_map, unwrap_or}
 use Rattle.std.specs.Cmp.Lexicographic.{slice_cmp}
 use Rattle.std.specs.Ordering.{nat_cmp, is_lt}
+use Rattle.bt_image.specs.Abi.{ST_NAME, ST_VALUE, ST_INFO, ST_SHNDX, STT_FUNC, GLOBAL_NOTYPE, SHN_UNDEF, SYM_SIZE}
 use Rattle.bt_image.specs.File.{byte_field, half_field, word_field}
 use Rattle.bt_image.specs.Image.{is_code}
 use Rattle.bt_image.specs.Least.{least_of}
@@ -14,16 +16,16 @@ use Rattle.bt_image.specs.declared.symbol.Symbol.{Symbol}
 -- the symbol that stands at a place of the file
 abbrev pub symbol_from : List ℕ → ℕ → Symbol
 symbol_from file at = record {
-  name = word_field file at;
-  value = word_field file (at + 4);
-  info = byte_field file (at + 12);
-  section = half_field file (at + 14);
+  name = word_field file (at + ST_NAME);
+  value = word_field file (at + ST_VALUE);
+  info = byte_field file (at + ST_INFO);
+  section = half_field file (at + ST_SHNDX);
 }
 
 -- how many symbols a table has, of 16 bytes each
 abbrev pub symbols_of : List ℕ → Option ℕ → ℕ
 symbols_of file None = 0
-symbols_of file (Some table) = (section_at file table).size / 16
+symbols_of file (Some table) = (section_at file table).size / SYM_SIZE
 
 -- how many symbols the file has
 unfoldable pub symbol_count : List ℕ → ℕ
@@ -35,7 +37,7 @@ symbols_start file = unwrap_or (option_map (λ table. (section_at file table).of
 
 -- symbol k of the file
 unfoldable pub symbol_at : List ℕ → ℕ → Symbol
-symbol_at file k = symbol_from file (symbols_start file + 16 * k)
+symbol_at file k = symbol_from file (symbols_start file + SYM_SIZE * k)
 
 -- the strings of the symbols' names: the section that the symbol table links to
 abbrev pub strings_of : List ℕ → Option ℕ → List ℕ
@@ -55,15 +57,15 @@ is_ended strings at = list_any (λ b. b == 0) (drop at strings)
 
 -- the symbol is of type FUNC
 abbrev pub is_typed : Symbol → Bool
-is_typed s = s.info % 16 == 2
+is_typed s = s.info % 16 == STT_FUNC
 
 -- the symbol is of type FUNC, or of no type and global
 abbrev pub may_be_function : Symbol → Bool
-may_be_function s = is_typed s || (s.info == 16)
+may_be_function s = is_typed s || (s.info == GLOBAL_NOTYPE)
 
 -- the symbol may be a function, is of some section, and its value is a code address
 abbrev pub names_code : List ℕ → Symbol → Bool
-names_code file s = may_be_function s && (not (s.section == 0) && is_code file s.value)
+names_code file s = may_be_function s && (not (s.section == SHN_UNDEF) && is_code file s.value)
 
 -- the name of symbol k
 abbrev pub symbol_name : List ℕ → ℕ → List ℕ
@@ -76,7 +78,7 @@ is_function_symbol file k = names_code file (symbol_at file k) && nat_lt 0 (leng
 -- a section is the symbol table, or empty where there is none
 pub record HasSymbols (file : List ℕ) (table : Section) : Type 0 where
   pub start : symbols_start file ≡ table.offset
-  pub count : symbol_count file ≡ table.size / 16
+  pub count : symbol_count file ≡ table.size / SYM_SIZE
   pub inside : table.offset + table.size ≤ length file
 
 -- a function: an address with at least one function symbol

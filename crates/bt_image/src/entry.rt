@@ -9,6 +9,7 @@ ghost use Rattle.bt_image.specs.Refusal.{symbols_refusal};
 ghost use Rattle.bt_image.specs.Symbol.{HasSymbols, entry_of, is_before, name_at, symbol_count, symbol_strings};
 ghost use Rattle.bt_image.specs.declared.entry.Entry.{Entry};
 
+use crate::abi::SYM_SIZE;
 use crate::functions::checked_strings;
 use crate::names::{function_symbol, is_before};
 use crate::section::Section;
@@ -69,7 +70,7 @@ fn gather(
     ensures { IfOk result (λ entries. AreEntries file.now (symbol_count file.now) entries.items) }
 {
     let mut entries = Vec::new(alloc);
-    for k in 0..table.size / 16 {
+    for k in 0..table.size / SYM_SIZE {
         match function_symbol(file, loaded, table, strings, k) {
             None => {}
             Some(s) => entries.push(Entry {
@@ -104,8 +105,10 @@ pub fn entries(
 fn before(strings: &[u8], entries: &[Entry], name: &[u8]) -> usize
     requires { AreInOrder strings.now entries.now }
     ensures within { result ≤ length entries.now }
-    ensures below { (k : ℕ) (d : Entry) → k < result → is_before (name_at strings.now (slice_index_or entries.now k d).name) name.now ≡ true }
-    ensures above { (k : ℕ) (d : Entry) → result ≤ k → k < length entries.now → is_before (name_at strings.now (slice_index_or entries.now k d).name) name.now ≡ false }
+    ensures below { (k : ℕ) (d : Entry) → k < result
+        → is_before (name_at strings.now (slice_index_or entries.now k d).name) name.now ≡ true }
+    ensures above { (k : ℕ) (d : Entry) → result ≤ k → k < length entries.now
+        → is_before (name_at strings.now (slice_index_or entries.now k d).name) name.now ≡ false }
 {
     entries.partition_point(|e| is_before(text(strings, e.name), name))
 }

@@ -11,6 +11,7 @@ ghost use Rattle.bt_image.specs.Names.{AreNames};
 ghost use Rattle.bt_image.specs.Refusal.{IsStep, symbols_refusal, limits_refusal};
 ghost use Rattle.bt_image.specs.Symbol.{symbol_count, symbol_strings, name_of};
 
+use crate::abi::SYM_SIZE;
 use crate::names::{Name, names};
 use crate::refusal::{Counted, ImageRefusal};
 use crate::section::Section;
@@ -67,7 +68,7 @@ pub fn limited_names(
     ensures ordered { IfOk result (λ names. IsOrdered nat_cmp names) }
 {
     let table = table_of(file, number);
-    let symbols = table.size / 16;
+    let symbols = table.size / SYM_SIZE;
     if symbols > MOST_SYMBOLS {
         return Err(ImageRefusal::Limit {
             what: Counted::Symbols,

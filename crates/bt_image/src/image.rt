@@ -1,8 +1,8 @@
 ghost use Rattle.std.specs.Prelude.{◌≡◌, ◌≤◌, ℕ, length, All, Contains, IfOk, IfSome, MatchOption, true};
 ghost use Rattle.std.specs.Option.{option_copied};
-ghost use Rattle.bt_image.specs.Checked.{IsChecked};
+ghost use Rattle.bt_image.specs.Checked.{IsAccepted, IsChecked};
 ghost use Rattle.bt_image.specs.Extent.{IsExtent, Rise};
-ghost use Rattle.bt_image.specs.Image.{word, bytes, is_readonly, is_code, IsNextCode, HasNoCodeFrom};
+ghost use Rattle.bt_image.specs.Image.{word, bytes, read_only_bytes, is_readonly, is_code, IsNextCode, HasNoCodeFrom};
 ghost use Rattle.bt_image.specs.Label.{IsLabelWithin, IsTaken};
 ghost use Rattle.bt_image.specs.Refusal.{IsCheck, IsStep, checked_refusal, first_refusal};
 ghost use Rattle.bt_image.specs.Symbol.{functions, name_of, entry_of};
@@ -55,7 +55,8 @@ impl Model for Image {
 
     ghost view = { λ i. i.bytes.items };
 
-    ghost invariant = { λ i. IsImage i.bytes.items i.number i.loaded.items i.code.items i.addresses.items i.names i.entries.items i.labels.items i.taken.items };
+    ghost invariant = { λ i. IsImage i.bytes.items i.number i.loaded.items i.code.items i.addresses.items i.names
+        i.entries.items i.labels.items i.taken.items };
 }
 
 /// The number of the symbol table of a file whose headers and sections pass the checks.
@@ -125,6 +126,14 @@ impl Image {
             labels,
             taken,
         })
+    }
+
+    /// An image is of a file that was accepted, and its bytes are below 256: so the laws of images hold of it. The
+    /// call does nothing.
+    pub fn accepted(&self)
+        ensures { IsAccepted self.now }
+    {
+        let _bytes: &[u8] = &self.bytes;
     }
 
     /// The functions, rising: the addresses with at least one function symbol.
@@ -202,6 +211,16 @@ impl Image {
         ensures len { IfSome result (λ bytes. length bytes.now ≡ n) }
     {
         held(&self.bytes, &self.loaded, Access::Loaded, a, n)
+    }
+
+    /// The `n` bytes from an address on: Some exactly where they stand in one read-only section.
+    pub fn read_only_bytes_at(&self, a: u32, n: u32) -> Option<&[u8]>
+        requires some { 1 ≤ n }
+        requires few { n ≤ 8 }
+        ensures value { option_copied result ≡ read_only_bytes self.now a n }
+        ensures len { IfSome result (λ bytes. length bytes.now ≡ n) }
+    {
+        held(&self.bytes, &self.loaded, Access::ReadOnly, a, n)
     }
 
     /// Whether the byte at an address stands in a read-only section.

@@ -2,6 +2,7 @@
 //! supplement): the sections that are in memory, what stands at each address, and the functions.
 #![tactic(auto)]
 
+mod abi;
 mod entry;
 mod extent;
 mod fields;
@@ -24,5 +25,5 @@ mod symbols;
 mod values;
 
 pub use image::Image;
-pub use laws::{bytes_do_not_mix, code_is_read_only, words_are_read_only};
+pub use laws::{bytes_do_not_mix, code_is_in_memory, code_is_read_only, words_are_read_only};
 pub use refusal::{Counted, ImageRefusal};

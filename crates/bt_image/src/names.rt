@@ -9,6 +9,7 @@ ghost use Rattle.bt_image.specs.Names.{is_chosen, better, AreNames, IsNoted};
 ghost use Rattle.bt_image.specs.Refusal.{symbols_refusal};
 ghost use Rattle.bt_image.specs.Symbol.{HasSymbols, symbol_at, symbol_count, is_function_symbol, is_before, symbol_strings};
 
+use crate::abi::SYM_SIZE;
 use crate::section::Section;
 use crate::strings::name_at;
 use crate::symbol::Symbol;
@@ -129,7 +130,7 @@ pub fn names(
     ensures { IfOk result (λ names. AreNames file.now strings.now (symbol_count file.now) names) }
 {
     let mut names = BTreeMap::new(alloc);
-    for k in 0..table.size / 16 {
+    for k in 0..table.size / SYM_SIZE {
         match function_symbol(file, loaded, table, strings, k) {
             None => {}
             Some(s) => note(&mut names, strings, s)?,

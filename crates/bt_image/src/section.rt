@@ -2,10 +2,11 @@
 ghost use Rattle.std.specs.Prelude.{◌≡◌, ◌+◌, ◌<◌, ◌≤◌, length};
 ghost use Rattle.bt_image.specs.Section.{section_from, has_flag, is_compressed, is_loaded, is_code_section, is_read_only_section, test_of};
 
+use crate::abi::{
+    SH_ADDR, SH_ENTSIZE, SH_FLAGS, SH_LINK, SH_OFFSET, SH_SIZE, SH_TYPE, SHF_ALLOC_BIT,
+    SHF_COMPRESSED_BIT, SHF_EXECINSTR_BIT, SHF_WRITE_BIT, SHT_NOBITS,
+};
 use crate::fields::word_field;
-
-/// The type of a section that takes no room in the file.
-const NOBITS: u32 = 8;
 
 /// The header of a section, as far as it is looked at.
 #[derive(Clone, Copy, Debug, PartialEq, Eq)]
@@ -44,13 +45,13 @@ impl Section {
         ensures { result ≡ section_from file.now at }
     {
         Section {
-            kind: word_field(file, at + 4),
-            flags: word_field(file, at + 8),
-            address: word_field(file, at + 12),
-            offset: word_field(file, at + 16),
-            size: word_field(file, at + 20),
-            link: word_field(file, at + 24),
-            entry_size: word_field(file, at + 36),
+            kind: word_field(file, at + SH_TYPE),
+            flags: word_field(file, at + SH_FLAGS),
+            address: word_field(file, at + SH_ADDR),
+            offset: word_field(file, at + SH_OFFSET),
+            size: word_field(file, at + SH_SIZE),
+            link: word_field(file, at + SH_LINK),
+            entry_size: word_field(file, at + SH_ENTSIZE),
         }
     }
 
@@ -65,28 +66,28 @@ impl Section {
     pub fn is_compressed(&self) -> bool
         ensures { result ≡ is_compressed self.now }
     {
-        self.has_flag(11)
+        self.has_flag(SHF_COMPRESSED_BIT)
     }
 
     /// Whether it is in memory from the file: allocated, not of type NOBITS, and not empty.
     pub fn is_loaded(&self) -> bool
         ensures { result ≡ is_loaded self.now }
     {
-        self.has_flag(1) && self.kind != NOBITS && self.size > 0
+        self.has_flag(SHF_ALLOC_BIT) && self.kind != SHT_NOBITS && self.size > 0
     }
 
     /// Whether it is loaded and has instructions.
     pub fn is_code(&self) -> bool
         ensures { result ≡ is_code_section self.now }
     {
-        self.is_loaded() && self.has_flag(2)
+        self.is_loaded() && self.has_flag(SHF_EXECINSTR_BIT)
     }
 
     /// Whether it is loaded, and is code or can't be written.
     pub fn is_read_only(&self) -> bool
         ensures { result ≡ is_read_only_section self.now }
     {
-        self.is_loaded() && (self.has_flag(2) || !self.has_flag(0))
+        self.is_loaded() && (self.has_flag(SHF_EXECINSTR_BIT) || !self.has_flag(SHF_WRITE_BIT))
     }
 
     /// The address past its last byte, which may be 2^32 and more.

@@ -2,6 +2,7 @@
 ghost use Rattle.std.specs.Prelude.{◌≡◌, ◌+◌, ◌≤◌, length};
 ghost use Rattle.bt_image.specs.Symbol.{symbol_from, is_typed, may_be_function};
 
+use crate::abi::{GLOBAL_NOTYPE, ST_INFO, ST_NAME, ST_SHNDX, ST_VALUE, STT_FUNC};
 use crate::fields::{byte_field, half_field, word_field};
 
 /// An entry of the symbol table, as far as it is looked at.
@@ -25,10 +26,10 @@ impl Symbol {
         ensures { result ≡ symbol_from file.now at }
     {
         Symbol {
-            name: word_field(file, at),
-            value: word_field(file, at + 4),
-            info: byte_field(file, at + 12),
-            section: half_field(file, at + 14),
+            name: word_field(file, at + ST_NAME),
+            value: word_field(file, at + ST_VALUE),
+            info: byte_field(file, at + ST_INFO),
+            section: half_field(file, at + ST_SHNDX),
         }
     }
 
@@ -36,13 +37,13 @@ impl Symbol {
     pub fn is_typed(&self) -> bool
         ensures { result ≡ is_typed self.now }
     {
-        self.info % 16 == 2
+        self.info % 16 == STT_FUNC
     }
 
     /// Whether it is of type FUNC, or of no type and global.
     pub fn may_be_function(&self) -> bool
         ensures { result ≡ may_be_function self.now }
     {
-        self.is_typed() || self.info == 0x10
+        self.is_typed() || self.info == GLOBAL_NOTYPE
     }
 }

@@ -7,6 +7,7 @@ ghost use Rattle.bt_image.specs.Refusal.{HasHeaders, IsCheck, sections_refusal, 
 ghost use Rattle.bt_image.specs.Section.{symbol_table, section_at, section_bytes};
 ghost use Rattle.bt_image.specs.Symbol.{HasSymbols, symbol_at, symbol_count, names_code, symbol_strings, is_ended};
 
+use crate::abi::{SHN_UNDEF, SHT_STRTAB, SYM_SIZE};
 use crate::headers::{section, section_count};
 use crate::loaded::code_in;
 use crate::refusal::ImageRefusal;
@@ -35,10 +36,10 @@ pub fn is_table(file: &[u8], table: &Section) -> bool
     requires { HasHeaders file.now }
     ensures { result ≡ is_table file.now table.now }
 {
-    table.entry_size == 16
-        && table.size % 16 == 0
+    table.entry_size == SYM_SIZE
+        && table.size % SYM_SIZE == 0
         && table.link < u32::from(section_count(file))
-        && section(file, table.link as u16).kind == 3
+        && section(file, table.link as u16).kind == SHT_STRTAB
 }
 
 /// Symbol `k` of the file.
@@ -48,7 +49,7 @@ pub fn symbol(file: &[u8], table: &Section, k: u32) -> Symbol
     requires within { k < symbol_count file.now }
     ensures { result ≡ symbol_at file.now k }
 {
-    Symbol::read(file, table.offset as usize + 16 * k as usize)
+    Symbol::read(file, table.offset as usize + SYM_SIZE as usize * k as usize)
 }
 
 /// Whether a symbol may be a function, is of some section, and its value is a code address.
@@ -56,7 +57,7 @@ pub fn names_code(file: &[u8], loaded: &[Section], s: &Symbol) -> bool
     requires { AreLoaded file.now (section_count file.now) loaded.now }
     ensures { result ≡ names_code file.now s.now }
 {
-    s.may_be_function() && s.section != 0 && code_in(file, loaded, s.value)
+    s.may_be_function() && s.section != SHN_UNDEF && code_in(file, loaded, s.value)
 }
 
 /// Whether symbol `k` names code, and its name is outside the strings or doesn't end.
@@ -79,7 +80,7 @@ pub fn unnamed(file: &[u8], loaded: &[Section], table: &Section, ended: usize) -
     requires ended { (at : ℕ) → is_ended (symbol_strings file.now) at ≡ nat_lt at ended }
     ensures { result ≡ first_passing (is_unnamed file.now) (symbol_count file.now) }
 {
-    for k in 0..table.size / 16 {
+    for k in 0..table.size / SYM_SIZE {
         if is_unnamed(file, loaded, table, ended, k) {
             return Some(k);
         }

@@ -22,7 +22,7 @@ module _ {K X : Type 0} (holds : K → Type 0) (read : X → K) (own : Shown K) 
   looks_give_own [] look (u, (t, same, step)) given before =
       let P : Sight K → Type 0 = λ s. (s.own ≡ Some own) × (s.next ≤ index_of own) in
       let here = subst P same (given, before) in
-      absurd (omega (arith, here.1, step.2.0 own here.0))
+      absurd (omega (arith, here.1, step.2.over own here.0))
   looks_give_own (pair ∷ pairs) look (u, (t, (j, step, more), last)) given before =
       let gives = step.1 in
       let at = gives.shown.0 in

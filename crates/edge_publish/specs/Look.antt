@@ -63,12 +63,18 @@ pub record GivesNext {K : Type 0} (holds : K → Type 0) (old new : Sight K) (in
   pub rule : holds key
   pub behind : new.next ≡ index + 1
 
+-- nothing is left to give: the own receipt was passed, the end is reached, and the pair that was given last stays in sight
+pub record IsAtEnd {K : Type 0} (old new : Sight K) : Type 0 where
+  pub over : IsOver old.own old.next
+  pub reached : old.end ≤ new.next
+  pub seen : new.seen ≡ old.seen
+
 -- one step of a look: it stays over its board and gives the next pair, or it is over; `read` is the key that a
 -- reference shows
 abbrev pub IsStep : {K X : Type 0} → (K → Type 0) → (X → K) → Sight K → Option (ℕ × X) → Sight K → Type 0
 IsStep holds read old item new =
     IsSameLook old new × IfSome item (λ pair. GivesNext holds old new pair.0 (read pair.1))
-    × IfNone item (IsOver old.own old.next × (old.end ≤ new.next))
+    × IfNone item (IsAtEnd old new)
 
 -- a receipt's pair of index and key is among the pairs that a look gave
 abbrev pub GivesPair : {K X : Type 0} → (X → K) → Shown K → List (ℕ × X) → Type 0

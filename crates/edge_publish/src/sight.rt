@@ -78,7 +78,7 @@ impl<'a, K, N: About<K>> Look<'a, K, N> {
         }
     }
 
-    /// The receipt of the pair that was given last, if one was.
+    /// The receipt of the pair that was given last, if one was; it stays where a step gives none.
     pub fn receipt(&self) -> Option<&Receipt<K, N>>
         ensures { option_map (λ r. r.now) result ≡ self.now.seen }
     {

@@ -40,7 +40,7 @@ impl<S: System, N: Name<S::Key, S::Val>> Drop for Held<S, N> {
 
 impl<S: System, N: Name<S::Key, S::Val>> Held<S, N> {
     /// A core as the lock keeps it: it is good for the named system, which is lawful, and has the named limit.
-    pub fn new(core: Core<S>) -> Held<S, N>
+    pub(crate) fn new(core: Core<S>) -> Held<S, N>
         requires lawful { IsLawful S.Key.cmp N.rules }
         requires good { IsGood S.Key.cmp N.rules core }
         requires limit { core.limit ≡ N.limit }
@@ -99,7 +99,7 @@ impl<S: System, N: Name<S::Key, S::Val>> Held<S, N> {
     }
 
     /// The core, no longer held.
-    pub fn core(self) -> Core<S>
+    pub(crate) fn core(self) -> Core<S>
         ensures same { result ≡ self }
         ensures held { IsHeld S.Key.cmp N.rules N.limit result }
     {

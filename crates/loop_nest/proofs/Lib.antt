@@ -9,5 +9,6 @@ pub mod Marks
 pub mod Nested
 pub mod Parts
 pub mod Places
+pub mod Risen
 pub mod Split
 pub mod Turned

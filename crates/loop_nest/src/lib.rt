@@ -12,6 +12,7 @@ mod ordering;
 mod parting;
 mod placing;
 mod refusal;
+mod rising;
 mod searching;
 mod splitting;
 mod turning;

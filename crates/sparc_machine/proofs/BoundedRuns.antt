@@ -8,7 +8,9 @@ use Rattle.sparc_decode.specs.declared.instruction.Instr.{Instr}
 use Rattle.sparc_machine.specs.Effect.{code_word, step_cost}
 use Rattle.sparc_machine.specs.Frame.{root_frame}
 use Rattle.sparc_machine.specs.Run.{BoundsRuns}
-use Rattle.sparc_machine.specs.Straight.{IsStraight, only_computes, leaves_link, passes, code_instruction, loads, loaded_before, cost_alone, code_cost, return_word, StraightCodeIsOne, IsBlocked, ArePassed, Leaves}
+use Rattle.sparc_machine.specs.Straight.{IsStraight, only_computes, leaves_link, passes, code_instruction, loads}
+use Rattle.sparc_machine.specs.Straight.{loaded_before, cost_alone, code_cost, return_word, StraightCodeIsOne}
+use Rattle.sparc_machine.specs.Straight.{IsBlocked, ArePassed, Leaves}
 use Rattle.sparc_machine.proofs.StraightRuns.{code_cost_next, pair_most, from_place, the_return}
 
 -- every run of straight code is straight, and within the cost of its words

@@ -1,6 +1,7 @@
 -- Each instruction keeps the number of registers, the window below 8, the mask, the alignment, the cycles and what the
 -- step before loaded.
-use Rattle.std.proofs.Common.{◌≡◌, ℕ, ◌+◌, ◌*◌, ◌%◌, ◌^◌, ◌<◌, ◌⊎◌, inl, inr, Bool, true, false, List, length, Option, Some, None, refl, sym, subst, ◌∙◌, arith, cond, eqb}
+use Rattle.std.proofs.Common.{◌≡◌, ℕ, ◌+◌, ◌*◌, ◌%◌, ◌^◌, ◌<◌, ◌⊎◌, inl, inr, Bool, true, false, List, length, Option}
+use Rattle.std.proofs.Common.{Some, None, refl, sym, subst, ◌∙◌, arith, cond, eqb}
 use Rattle.std.proofs.Math.ListN.{length-set}
 use Rattle.std.specs.Prelude.{slice_set, if◌then◌else◌, ◌&&◌, ℤ}
 use Rattle.std.proofs.lemmas.Bool.Decides.{eqb_tells}
@@ -8,10 +9,19 @@ use Rattle.cycle_table.specs.Class.{has_eight}
 use Rattle.sparc_decode.specs.Instr.{instruction_of}
 use Rattle.sparc_decode.specs.Register.{mask_of, registers_loaded}
 use Rattle.sparc_decode.specs.declared.instruction.Instr.{Instr}
-use Rattle.sparc_decode.specs.declared.instruction.Instr.TheVariants.{Call, Unimp, Sethi, Branch, FloatBranch, Alu, Tagged, MulStep, Shift, ReadY, WriteY, FloatOp, FloatCmp, Jmpl, Flush, Save, Restore, Ticc, Load, Store, Atomic, FloatMem, Unmodelled as UnmodelledWord, Unknown, Multiply, Divide}
+use Rattle.sparc_decode.specs.declared.instruction.Instr.TheVariants.{Call, Unimp, Sethi, Branch, FloatBranch, Alu}
+use Rattle.sparc_decode.specs.declared.instruction.Instr.TheVariants.{Tagged, MulStep, Shift, ReadY, WriteY, FloatOp}
+use Rattle.sparc_decode.specs.declared.instruction.Instr.TheVariants.{FloatCmp, Jmpl, Flush, Save, Restore, Ticc, Load}
+use Rattle.sparc_decode.specs.declared.instruction.Instr.TheVariants.{Store, Atomic, FloatMem}
+use Rattle.sparc_decode.specs.declared.instruction.Instr.TheVariants.{Unmodelled as UnmodelledWord, Unknown, Multiply}
+use Rattle.sparc_decode.specs.declared.instruction.Instr.TheVariants.{Divide}
 use Rattle.sparc_decode.specs.declared.instruction.LoadKind.{LoadKind}
 use Rattle.sparc_decode.specs.declared.instruction.LoadKind.TheVariants.{Ld, Ldub, Lduh, Ldd, Ldsb, Ldsh}
-use Rattle.sparc_machine.specs.Effect.{Effect, Done, Trapped, goes_on, flags_in, with_flags, is_in_order, in_order, target_of, address_in, branched, branch_effect, float_taken, jumped, is_invalid, turned, read_into, load_effect, is_odd_double_load, write_trap, store_effect, is_odd_double_store, atomic_effect, float_effect, unless_trapped, effect_of, is_modelled, modelled, step_cost, paid, stepped_from}
+use Rattle.sparc_machine.specs.Effect.{Effect, Done, Trapped, goes_on, flags_in, with_flags, is_in_order, in_order}
+use Rattle.sparc_machine.specs.Effect.{target_of, address_in, branched, branch_effect, float_taken, jumped, is_invalid}
+use Rattle.sparc_machine.specs.Effect.{turned, read_into, load_effect, is_odd_double_load, write_trap, store_effect}
+use Rattle.sparc_machine.specs.Effect.{is_odd_double_store, atomic_effect, float_effect, unless_trapped, effect_of}
+use Rattle.sparc_machine.specs.Effect.{is_in_version, modelled, step_cost, paid, stepped_from}
 use Rattle.sparc_machine.specs.Memory.{load_size, store_size, atomic_size, float_size, is_float_store}
 use Rattle.sparc_machine.specs.Kept.{IsKept, EachStepKeeps}
 use Rattle.sparc_machine.specs.Machine.{with_register, going_to, advanced, charged}
@@ -236,7 +246,7 @@ step_keeps : (image cycles : List ℕ) (free : Free) (m next : Machine) (here : 
     → stepped_from image cycles free m here ≡ Stepped next → IsKept m next
 step_keeps image cycles free m next None w e = cc
 step_keeps image cycles free m next (Some these) w e =
-    modelled_keeps m next (is_modelled (has_eight cycles) (instruction_of these)) _
+    modelled_keeps m next (is_in_version (has_eight cycles) (instruction_of these)) _
     (λ k. paid_keeps cycles m.loaded m next _ _ (keeps image free m (instruction_of these) w) k) e
 
 pub each_step_keeps : EachStepKeeps

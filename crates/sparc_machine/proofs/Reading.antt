@@ -6,14 +6,23 @@ use Rattle.std.specs.Prelude.{slice_set, slice_index}
 use Rattle.sparc_decode.specs.Register.{operands, registers_read}
 use Rattle.sparc_decode.specs.declared.instruction.AluOp.{AluOp}
 use Rattle.sparc_decode.specs.declared.instruction.Instr.{Instr}
-use Rattle.sparc_decode.specs.declared.instruction.Instr.TheVariants.{Call, Unimp, Sethi, Branch, FloatBranch, Alu, Tagged, MulStep, Shift, ReadY, WriteY, FloatOp, FloatCmp, Jmpl, Flush, Save, Restore, Ticc, Load, Store, Atomic, FloatMem, Unmodelled as UnmodelledWord, Unknown, Multiply, Divide}
+use Rattle.sparc_decode.specs.declared.instruction.Instr.TheVariants.{Call, Unimp, Sethi, Branch, FloatBranch, Alu}
+use Rattle.sparc_decode.specs.declared.instruction.Instr.TheVariants.{Tagged, MulStep, Shift, ReadY, WriteY, FloatOp}
+use Rattle.sparc_decode.specs.declared.instruction.Instr.TheVariants.{FloatCmp, Jmpl, Flush, Save, Restore, Ticc, Load}
+use Rattle.sparc_decode.specs.declared.instruction.Instr.TheVariants.{Store, Atomic, FloatMem}
+use Rattle.sparc_decode.specs.declared.instruction.Instr.TheVariants.{Unmodelled as UnmodelledWord, Unknown, Multiply}
+use Rattle.sparc_decode.specs.declared.instruction.Instr.TheVariants.{Divide}
 use Rattle.sparc_decode.specs.declared.instruction.LoadKind.{LoadKind}
 use Rattle.sparc_decode.specs.declared.instruction.LoadKind.TheVariants.{Ld, Ldub, Lduh, Ldd, Ldsb, Ldsh}
 use Rattle.sparc_decode.specs.declared.instruction.Second.{Second}
 use Rattle.sparc_decode.specs.declared.instruction.Second.TheVariants.{Reg, Imm}
 use Rattle.sparc_decode.specs.declared.instruction.StoreKind.{StoreKind}
 use Rattle.sparc_decode.specs.declared.instruction.StoreKind.TheVariants.{St, Stb, Sth, Std}
-use Rattle.sparc_machine.specs.Effect.{Effect, goes_on, with_flags, flags_from, tagged_result, shift_result, freely_flagged, is_in_order, in_order, address_in, operated, branched, jumped, is_invalid, turned, read_into, load_effect, is_odd_double_load, write_trap, store_effect, is_odd_double_store, atomic_effect, float_effect, unless_trapped, effect_of}
+use Rattle.sparc_machine.specs.Effect.{Effect, goes_on, with_flags, flags_from, tagged_result, shift_result}
+use Rattle.sparc_machine.specs.Effect.{freely_flagged, is_in_order, in_order, address_in, operated, branched, jumped}
+use Rattle.sparc_machine.specs.Effect.{is_invalid, turned, read_into, load_effect, is_odd_double_load, write_trap}
+use Rattle.sparc_machine.specs.Effect.{store_effect, is_odd_double_store, atomic_effect, float_effect, unless_trapped}
+use Rattle.sparc_machine.specs.Effect.{effect_of}
 use Rattle.sparc_machine.specs.Machine.{register_of, with_register, operand_of, going_to, advanced}
 use Rattle.sparc_machine.specs.Memory.{load_size, store_size, atomic_size, is_float_store, float_size}
 use Rattle.sparc_machine.specs.Reads.{with_place, IsElsewhere, AreElsewhere, AgreesBut, EffectsAgreeBut, trapped, done, DependsOnReadsAlone}

@@ -1,5 +1,7 @@
 -- A run over straight code stands at its words one after the other, up to the pop of its frame.
-use Rattle.std.proofs.Common.{◌≡◌, ◌≢◌, ℕ, zero, suc, ◌+◌, ◌-◌, ◌*◌, ◌%◌, ◌^◌, ◌<◌, ◌≤◌, ◌⊎◌, inl, inr, Bool, true, false, List, [], ◌∷◌, length, Option, Some, None, refl, sym, ap, subst, ◌∙◌, arith, cond, eqb}
+use Rattle.std.proofs.Common.{◌≡◌, ◌≢◌, ℕ, zero, suc, ◌+◌, ◌-◌, ◌*◌, ◌%◌, ◌^◌, ◌<◌, ◌≤◌, ◌⊎◌, inl, inr, Bool, true}
+use Rattle.std.proofs.Common.{false, List, [], ◌∷◌, length, Option, Some, None, refl, sym, ap, subst, ◌∙◌, arith, cond}
+use Rattle.std.proofs.Common.{eqb}
 use Rattle.std.proofs.Math.Nat.{eq-or-lt_of_le, le_of_eq}
 use Rattle.std.proofs.lemmas.Bool.{cases_eq, eq-eqb, ne_eqb}
 use Rattle.std.proofs.lemmas.Nat.{and_mask, and_comm, and_le_r}
@@ -21,7 +23,8 @@ use Rattle.sparc_machine.specs.Frame.{Transfer, Stays, Returns, Frame, StepsTo, 
 use Rattle.sparc_machine.specs.Machine.{with_register, going_to, advanced, charged}
 use Rattle.sparc_machine.specs.Outcome.{Stepped}
 use Rattle.sparc_machine.specs.Register.{physical_of}
-use Rattle.sparc_machine.specs.Straight.{IsStraight, only_computes, passes, code_instruction, all_registers, loads, loaded_before, cost_alone, code_cost, return_word}
+use Rattle.sparc_machine.specs.Straight.{IsStraight, only_computes, passes, code_instruction, all_registers, loads}
+use Rattle.sparc_machine.specs.Straight.{loaded_before, cost_alone, code_cost, return_word}
 use Rattle.sparc_machine.specs.declared.free.Free.{Free}
 use Rattle.sparc_machine.specs.declared.machine.Machine.{Machine}
 use Rattle.sparc_machine.specs.declared.trap.Trap.TheVariants.{Unmodelled, Misaligned}

@@ -1,7 +1,8 @@
 -- What each instruction does to a machine over an image (SPARC Architecture Manual Version 7, "Instructions"). What
 -- a step may freely find, in memory outside read-only sections, in the Y register and in the floating-point unit,
 -- is a value of its own.
-use Rattle.std.specs.Prelude.{◌==◌, ℕ, ◌+◌, ◌*◌, ◌/◌, ◌%◌, ◌^◌, ℤ, Bool, true, false, not, ◌&&◌, ◌||◌, List, Option, Some, None, nat_le, if◌then◌else◌, bit_and, bit_or, bit_xor}
+use Rattle.std.specs.Prelude.{◌==◌, ℕ, ◌+◌, ◌*◌, ◌/◌, ◌%◌, ◌^◌, ℤ, Bool, true, false, not, ◌&&◌, ◌||◌, List, Option}
+use Rattle.std.specs.Prelude.{Some, None, nat_le, if◌then◌else◌, bit_and, bit_or, bit_xor}
 use Rattle.std.specs.Int.{w32, cast_unsigned}
 use Rattle.bt_image.specs.Image.{word, is_code}
 use Rattle.cycle_table.specs.Class.{has_eight}
@@ -12,7 +13,12 @@ use Rattle.sparc_decode.specs.declared.instruction.AluOp.{AluOp}
 use Rattle.sparc_decode.specs.declared.instruction.AluOp.TheVariants.{Add, And, Or, Xor, Sub, Andn, Orn, Xnor, Addx, Subx}
 use Rattle.sparc_decode.specs.declared.instruction.FloatKind.{FloatKind}
 use Rattle.sparc_decode.specs.declared.instruction.Instr.{Instr}
-use Rattle.sparc_decode.specs.declared.instruction.Instr.TheVariants.{Call, Unimp, Sethi, Branch, FloatBranch, Alu, Tagged, MulStep, Shift, ReadY, WriteY, FloatOp, FloatCmp, Jmpl, Flush, Save, Restore, Ticc, Load, Store, Atomic, FloatMem, Unmodelled as UnmodelledWord, Unknown, Multiply, Divide}
+use Rattle.sparc_decode.specs.declared.instruction.Instr.TheVariants.{Call, Unimp, Sethi, Branch, FloatBranch, Alu}
+use Rattle.sparc_decode.specs.declared.instruction.Instr.TheVariants.{Tagged, MulStep, Shift, ReadY, WriteY, FloatOp}
+use Rattle.sparc_decode.specs.declared.instruction.Instr.TheVariants.{FloatCmp, Jmpl, Flush, Save, Restore, Ticc, Load}
+use Rattle.sparc_decode.specs.declared.instruction.Instr.TheVariants.{Store, Atomic, FloatMem}
+use Rattle.sparc_decode.specs.declared.instruction.Instr.TheVariants.{Unmodelled as UnmodelledWord, Unknown, Multiply}
+use Rattle.sparc_decode.specs.declared.instruction.Instr.TheVariants.{Divide}
 use Rattle.sparc_decode.specs.declared.instruction.LoadKind.{LoadKind}
 use Rattle.sparc_decode.specs.declared.instruction.LoadKind.TheVariants.{Ld, Ldub, Lduh, Ldd, Ldsb, Ldsh}
 use Rattle.sparc_decode.specs.declared.instruction.Second.{Second}
@@ -23,7 +29,8 @@ use Rattle.sparc_decode.specs.declared.instruction.StoreKind.TheVariants.{Std}
 use Rattle.sparc_decode.specs.declared.instruction.TaggedOp.{TaggedOp}
 use Rattle.sparc_decode.specs.declared.instruction.TaggedOp.TheVariants.{Taddcc, Tsubcc, Taddcctv, Tsubcctv}
 use Rattle.sparc_machine.specs.Machine.{register_of, with_register, operand_of, going_to, advanced, charged}
-use Rattle.sparc_machine.specs.Memory.{load_size, store_size, float_size, atomic_size, is_float_store, constant_bytes, touches, read_number, extended, first_word, second_word}
+use Rattle.sparc_machine.specs.Memory.{load_size, store_size, float_size, atomic_size, is_float_store, constant_bytes}
+use Rattle.sparc_machine.specs.Memory.{touches, read_number, extended, first_word, second_word}
 use Rattle.sparc_machine.specs.Outcome.{Outcome, Stepped, Stopped}
 use Rattle.sparc_machine.specs.declared.free.Free.{Free}
 use Rattle.sparc_machine.specs.declared.machine.Machine.{Machine}
@@ -247,11 +254,12 @@ effect_of image free m (Multiply cc rd rs1 second) =
     goes_on (with_register (freely_flagged m free cc) rd (product_of (register_of m rs1) (operand_of m second)))
 effect_of image free m (Divide cc rd rs1 second) = goes_on (with_register (freely_flagged m free cc) rd free.first)
 
--- whether an instruction is modelled where a table is of version 2 or isn't: multiplications and divisions only there
-abbrev pub is_modelled : Bool → Instr → Bool
-is_modelled eight (Multiply cc rd rs1 second) = eight
-is_modelled eight (Divide cc rd rs1 second) = eight
-is_modelled eight _ = true
+-- whether tables of a version have costs of an instruction: multiplications and divisions only those of version 2, which
+-- is `eight`
+abbrev pub is_in_version : Bool → Instr → Bool
+is_in_version eight (Multiply cc rd rs1 second) = eight
+is_in_version eight (Divide cc rd rs1 second) = eight
+is_in_version eight _ = true
 
 -- the word of code at an address
 abbrev pub code_word : List ℕ → ℕ → Option ℕ
@@ -268,7 +276,7 @@ paid cycles before instruction (Done m annulled) =
     Stepped (charged m (step_cost cycles before instruction annulled) (mask_of (registers_loaded instruction)))
 paid cycles before instruction (Trapped trap) = Stopped trap
 
--- an outcome, or a trap where the instruction isn't modelled
+-- an outcome, or a trap where the table's version has no cost of the instruction
 abbrev pub modelled : Bool → Outcome → Outcome
 modelled true outcome = outcome
 modelled false outcome = Stopped Unmodelled
@@ -276,7 +284,7 @@ modelled false outcome = Stopped Unmodelled
 -- what the step of an instruction comes to
 abbrev pub performed : List ℕ → List ℕ → Free → Machine → Instr → Outcome
 performed image cycles free m instruction =
-    modelled (is_modelled (has_eight cycles) instruction) (paid cycles m.loaded instruction (effect_of image free m instruction))
+    modelled (is_in_version (has_eight cycles) instruction) (paid cycles m.loaded instruction (effect_of image free m instruction))
 
 -- what a step over an image with a table of cycles comes to, where it finds these free values: the effect of the
 -- word at the program counter, at its cost

@@ -2,7 +2,7 @@
 -- other read may give anything.
 use Rattle.std.specs.Prelude.{ℕ, ◌+◌, ◌-◌, ◌*◌, ◌%◌, ◌^◌, Bool, true, false, List, Option, Some, None, drop, nat_lt, if◌then◌else◌}
 use Rattle.std.specs.List.{list_any, range_with_len}
-use Rattle.bt_image.specs.Image.{bytes, is_readonly}
+use Rattle.bt_image.specs.Image.{is_readonly, read_only_bytes}
 use Rattle.byteorder.specs.Endian.{big_number}
 use Rattle.sparc_decode.specs.declared.instruction.FloatKind.{FloatKind}
 use Rattle.sparc_decode.specs.declared.instruction.FloatKind.TheVariants.{Ldf, Ldfsr, Lddf, Stf, Stfsr, Stdf}
@@ -48,7 +48,7 @@ atomic_size swap = if swap then 4 else 1
 
 -- the n bytes at an address, where they stand in one read-only section
 abbrev pub constant_bytes : List ℕ → ℕ → ℕ → Option (List ℕ)
-constant_bytes image address n = if is_readonly image address then bytes image address n else None
+constant_bytes image address n = read_only_bytes image address n
 
 -- whether one of the n bytes at an address is read-only
 abbrev pub touches : List ℕ → ℕ → ℕ → Bool

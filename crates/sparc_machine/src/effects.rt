@@ -1,7 +1,7 @@
 //! What an instruction does to a machine over an image.
 ghost use Rattle.std.specs.Prelude.{◌≡◌, ◌≢◌, ◌<◌, ◌≤◌, ◌%◌, ◌^◌, false, IfErr, IfOk, OnErr, OnOk};
 ghost use Rattle.sparc_decode.specs.Instr.{InRange};
-ghost use Rattle.sparc_machine.specs.Effect.{Done, Trapped, effect_of, in_order, called, branch_effect, jumped, read_into, load_effect, write_trap, store_effect, atomic_effect, float_effect, is_modelled, code_word, step_of};
+ghost use Rattle.sparc_machine.specs.Effect.{Done, Trapped, effect_of, in_order, called, branch_effect, jumped, read_into, load_effect, write_trap, store_effect, atomic_effect, float_effect, is_in_version, code_word, step_of};
 ghost use Rattle.sparc_machine.specs.Outcome.{Stepped, Stopped};
 
 use crate::{Free, Machine, Trap, executing, memory};
@@ -355,9 +355,10 @@ pub fn execute(
     }
 }
 
-/// Whether an instruction is modelled where a table is of version 2 or isn't: multiplications and divisions only there.
-fn is_modelled(eight: bool, instruction: &Instr) -> bool
-    ensures { result ≡ is_modelled eight instruction.now }
+/// Whether tables of version 2, or those of version 1, have costs of an instruction: multiplications and divisions only
+/// those of version 2.
+fn is_in_version(eight: bool, instruction: &Instr) -> bool
+    ensures { result ≡ is_in_version eight instruction.now }
 {
     match instruction {
         Instr::Multiply { .. } => eight,
@@ -415,7 +416,7 @@ pub fn step(m: &mut Machine, image: &Image, cycles: &Cycles, free: Free) -> Resu
         None => Err(Trap::Fetch),
         Some(word) => {
             let instruction = decode(word);
-            if !is_modelled(cycles.eight(), &instruction) {
+            if !is_in_version(cycles.eight(), &instruction) {
                 return Err(Trap::Unmodelled);
             }
             let pair = cycles.pair(m.loaded, &instruction);

@@ -74,11 +74,7 @@ pub fn constant(image: &Image, address: u32, size: u32) -> Option<&[u8]>
     ensures value { option_copied result ≡ constant_bytes image.now address size }
     ensures len { IfSome result (λ bytes. length bytes.now ≡ size) }
 {
-    if image.readonly(address) {
-        image.bytes_at(address, size)
-    } else {
-        None
-    }
+    image.read_only_bytes_at(address, size)
 }
 
 /// Whether one of the bytes at an address is read-only.

@@ -1,5 +1,6 @@
 -- What each instruction does to the registers, the window and the numbers of a machine.
-use Rattle.std.proofs.Common.{◌≡◌, ◌≢◌, ℕ, ℤ, ◌+◌, ◌*◌, ◌%◌, ◌^◌, ◌<◌, Bool, true, false, List, [], ◌∷◌, Option, Some, None, refl, sym, subst, ◌∙◌, arith, cond, eqb, inl, inr}
+use Rattle.std.proofs.Common.{◌≡◌, ◌≢◌, ℕ, ℤ, ◌+◌, ◌*◌, ◌%◌, ◌^◌, ◌<◌, Bool, true, false, List, [], ◌∷◌, Option, Some}
+use Rattle.std.proofs.Common.{None, refl, sym, subst, ◌∙◌, arith, cond, eqb, inl, inr}
 use Rattle.std.specs.Prelude.{slice_index, slice_set, ◌&&◌, if◌then◌else◌}
 use Rattle.std.proofs.Math.ListN.{length-set}
 use Rattle.std.proofs.lemmas.Bool.Decides.{eqb_tells}
@@ -9,12 +10,21 @@ use Rattle.sparc_decode.specs.Instr.{InRange}
 use Rattle.sparc_decode.specs.Register.{registers_written}
 use Rattle.sparc_decode.specs.declared.instruction.FloatKind.{FloatKind}
 use Rattle.sparc_decode.specs.declared.instruction.Instr.{Instr}
-use Rattle.sparc_decode.specs.declared.instruction.Instr.TheVariants.{Call, Unimp, Sethi, Branch, FloatBranch, Alu, Tagged, MulStep, Shift, ReadY, WriteY, FloatOp, FloatCmp, Jmpl, Flush, Save, Restore, Ticc, Load, Store, Atomic, FloatMem, Unmodelled as UnmodelledWord, Unknown, Multiply, Divide}
+use Rattle.sparc_decode.specs.declared.instruction.Instr.TheVariants.{Call, Unimp, Sethi, Branch, FloatBranch, Alu}
+use Rattle.sparc_decode.specs.declared.instruction.Instr.TheVariants.{Tagged, MulStep, Shift, ReadY, WriteY, FloatOp}
+use Rattle.sparc_decode.specs.declared.instruction.Instr.TheVariants.{FloatCmp, Jmpl, Flush, Save, Restore, Ticc, Load}
+use Rattle.sparc_decode.specs.declared.instruction.Instr.TheVariants.{Store, Atomic, FloatMem}
+use Rattle.sparc_decode.specs.declared.instruction.Instr.TheVariants.{Unmodelled as UnmodelledWord, Unknown, Multiply}
+use Rattle.sparc_decode.specs.declared.instruction.Instr.TheVariants.{Divide}
 use Rattle.sparc_decode.specs.declared.instruction.LoadKind.{LoadKind}
 use Rattle.sparc_decode.specs.declared.instruction.LoadKind.TheVariants.{Ld, Ldub, Lduh, Ldd, Ldsb, Ldsh}
 use Rattle.sparc_decode.specs.declared.instruction.Second.{Second}
 use Rattle.sparc_decode.specs.declared.instruction.StoreKind.{StoreKind}
-use Rattle.sparc_machine.specs.Effect.{Effect, Done, Trapped, goes_on, flags_in, with_flags, flags_from, is_in_order, target_of, address_in, alu_result, alu_flags, tagged_result, shift_result, branched, branch_effect, float_taken, jumped, is_invalid, turned, read_into, load_effect, is_odd_double_load, write_trap, store_effect, is_odd_double_store, atomic_effect, float_effect, unless_trapped, product_of, effect_of}
+use Rattle.sparc_machine.specs.Effect.{Effect, Done, Trapped, goes_on, flags_in, with_flags, flags_from, is_in_order}
+use Rattle.sparc_machine.specs.Effect.{target_of, address_in, alu_result, alu_flags, tagged_result, shift_result}
+use Rattle.sparc_machine.specs.Effect.{branched, branch_effect, float_taken, jumped, is_invalid, turned, read_into}
+use Rattle.sparc_machine.specs.Effect.{load_effect, is_odd_double_load, write_trap, store_effect, is_odd_double_store}
+use Rattle.sparc_machine.specs.Effect.{atomic_effect, float_effect, unless_trapped, product_of, effect_of}
 use Rattle.sparc_machine.specs.Frame.{IsFree}
 use Rattle.sparc_machine.specs.Machine.{IsMachine, register_of, operand_of, with_register, going_to, advanced}
 use Rattle.sparc_machine.specs.Memory.{load_size, store_size, atomic_size, float_size, is_float_store}

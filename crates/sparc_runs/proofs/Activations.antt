@@ -5,7 +5,8 @@ use Rattle.graph_laws.specs.Walk.{end_of}
 use Rattle.sparc_machine.specs.Frame.{Transfer, Stays, Calls, Returns, frames_after, root_frame, first_config, machine_at, due_at}
 use Rattle.sparc_machine.specs.declared.machine.Machine.{Machine}
 use Rattle.sparc_runs.proofs.Places.{next_from}
-use Rattle.sparc_runs.specs.Activation.{Activation, also_at, activations_after, activations_at, frames_of, latest, IsActive, AreActivations, ActivationsAreFrames}
+use Rattle.sparc_runs.specs.Activation.{Activation, also_at, activations_after, activations_at, frames_of, latest}
+use Rattle.sparc_runs.specs.Activation.{IsActive, AreActivations, ActivationsAreFrames}
 
 -- the frames behind a step
 frames_behind : (due : Transfer) (m : Machine) (place : ℕ) (these : List Activation)

@@ -1,5 +1,6 @@
 -- What a machine reads and computes are words.
-use Rattle.std.proofs.Common.{◌≡◌, ℕ, pos, negsuc, ◌+◌, ◌-◌, ◌%◌, ◌^◌, ◌<◌, Bool, true, false, List, Option, Some, None, All, refl, sym, subst, arith, cond, eqb, inl, inr, take, drop, length}
+use Rattle.std.proofs.Common.{◌≡◌, ℕ, pos, negsuc, ◌+◌, ◌-◌, ◌%◌, ◌^◌, ◌<◌, Bool, true, false, List, Option, Some, None}
+use Rattle.std.proofs.Common.{All, refl, sym, subst, arith, cond, eqb, inl, inr, take, drop, length}
 use Rattle.std.specs.Prelude.{slice_index, bit_xor, nat_lt}
 use Rattle.std.specs.Option.{option_map}
 use Rattle.std.proofs.Math.Nat.{div-le_self}
@@ -8,8 +9,8 @@ use Rattle.std.proofs.lemmas.Int.{ints}
 use Rattle.std.proofs.lemmas.List.{get_or_past}
 use Rattle.std.proofs.lemmas.List.Elements.{All-take, All-drop}
 use Rattle.std.proofs.lemmas.Nat.{and_le_l, or_of_32, xor_of_32}
-use Rattle.bt_image.specs.Image.{bytes, held, holder, is_readonly, place_in}
-use Rattle.bt_image.specs.Section.{is_loaded}
+use Rattle.bt_image.specs.Image.{held, holder, place_in}
+use Rattle.bt_image.specs.Section.{is_read_only_section}
 use Rattle.bt_image.specs.declared.section.Section.{Section}
 use Rattle.byteorder.specs.Endian.{big_number}
 use Rattle.byteorder.specs.Numbers.{big_from-lt}
@@ -98,10 +99,7 @@ held_bytes test image a n are = go (holder test image a n) where
   go (Some s) = All-take (λ b. b < 256) n (drop (place_in s a) image) (All-drop (λ b. b < 256) (place_in s a) image are)
 
 constant_held : (image : List ℕ) (a n : ℕ) → AreBytes image → AreHeld (constant_bytes image a n)
-constant_held image a n are = go (is_readonly image a) where
-  go : (b : Bool) → AreHeld (cond b (bytes image a n) None)
-  go true = held_bytes is_loaded image a n are
-  go false = tt
+constant_held image a n are = held_bytes is_read_only_section image a n are
 
 big_below : (n : ℕ) (these : List ℕ) → All (λ b. b < 256) these → big_number n these < 256 ^ n
 big_below n these all = big_from-lt 0 n these (λ k. below_everywhere 256 these k (omega arith) all)

@@ -5,7 +5,7 @@ use Rattle.cycle_table.specs.Class.{has_eight}
 use Rattle.sparc_decode.specs.Instr.{instruction_of}
 use Rattle.sparc_decode.specs.Register.{mask_of, registers_loaded}
 use Rattle.sparc_decode.specs.declared.instruction.Instr.{Instr}
-use Rattle.sparc_machine.specs.Effect.{Effect, Done, Trapped, effect_of, code_word, step_cost, paid, modelled, is_modelled, stepped_from}
+use Rattle.sparc_machine.specs.Effect.{Effect, Done, Trapped, effect_of, code_word, step_cost, paid, modelled, is_in_version, stepped_from}
 use Rattle.sparc_machine.specs.Frame.{IsFree, StepsTo}
 use Rattle.sparc_machine.specs.Machine.{charged}
 use Rattle.sparc_machine.specs.Outcome.{Stepped}
@@ -40,7 +40,7 @@ parts image cycles m next s = by_word (code_word image m.pc) refl s.steps where
 
   by_word : (w : Option ℕ) → code_word image m.pc ≡ w → stepped_from image cycles s.free m w ≡ Stepped next → IsStep image cycles m next
   by_word None code h = cc
-  by_word (Some this) code h = by_model this code (is_modelled (has_eight cycles) (instruction_of this)) h
+  by_word (Some this) code h = by_model this code (is_in_version (has_eight cycles) (instruction_of this)) h
 
 -- the instruction that is executed is the one at the program counter
 pub same_instruction : (image : List ℕ) (a this : ℕ) (i : Instr) → code_word image a ≡ Some this → code_instruction image a ≡ Some i → instruction_of this ≡ i

@@ -1,5 +1,6 @@
 -- What a step says of the transfer that is due behind it, and what the delay instruction of a call keeps.
-use Rattle.std.proofs.Common.{◌≡◌, ◌≢◌, ℕ, suc, ◌+◌, ◌-◌, ◌*◌, ◌%◌, ◌^◌, ◌<◌, ◌≤◌, ◌⊎◌, inl, inr, Bool, true, false, List, [], ◌∷◌, Option, Some, None, Contains, refl, sym, ap, subst, ◌∙◌, arith, cond, eqb}
+use Rattle.std.proofs.Common.{◌≡◌, ◌≢◌, ℕ, suc, ◌+◌, ◌-◌, ◌*◌, ◌%◌, ◌^◌, ◌<◌, ◌≤◌, ◌⊎◌, inl, inr, Bool, true, false}
+use Rattle.std.proofs.Common.{List, [], ◌∷◌, Option, Some, None, Contains, refl, sym, ap, subst, ◌∙◌, arith, cond, eqb}
 use Rattle.std.specs.Prelude.{slice_index, slice_set, ◌&&◌, bit_and}
 use Rattle.std.specs.Option.{option_map}
 use Rattle.std.proofs.lemmas.Bool.{eqb-true, cases_lt, lt-ltb, le-ltb}
@@ -11,7 +12,9 @@ use Rattle.sparc_decode.proofs.RegisterSets.{has_exactly}
 use Rattle.sparc_decode.specs.Instr.{instruction_of, InRange}
 use Rattle.sparc_decode.specs.Register.{mask_of, registers_written}
 use Rattle.sparc_decode.specs.declared.instruction.Instr.{Instr}
-use Rattle.sparc_decode.specs.declared.instruction.Instr.TheVariants.{Call, Sethi, Alu, Tagged, MulStep, Shift, ReadY, Jmpl, Save, Restore, Load, Atomic, Multiply, Divide}
+use Rattle.sparc_decode.specs.declared.instruction.Instr.TheVariants.{Call, Sethi, Alu, Tagged, MulStep, Shift, ReadY}
+use Rattle.sparc_decode.specs.declared.instruction.Instr.TheVariants.{Jmpl, Save, Restore, Load, Atomic, Multiply}
+use Rattle.sparc_decode.specs.declared.instruction.Instr.TheVariants.{Divide}
 use Rattle.sparc_decode.specs.declared.instruction.LoadKind.TheVariants.{Ld, Ldub, Lduh, Ldd, Ldsb, Ldsh}
 use Rattle.sparc_machine.specs.Effect.{Effect, Done, Trapped, effect_of, code_word, in_order, called, jumped, address_in}
 use Rattle.sparc_machine.specs.Frame.{Transfer, Stays, Calls, Returns, lets_call, is_return, transfer_by, transfer_from, transfer_of, instruction_at}

@@ -1,15 +1,22 @@
 -- The worked run, its frames, and the assertions that it meets and breaks.
-use Rattle.std.proofs.Common.{◌≡◌, ℕ, zero, suc, pos, neg_ℤ, ◌+◌, ◌^◌, ◌<◌, ◌≤◌, false, List, [], ◌∷◌, ◌++◌, replicate, map, All, Contains, refl, sym, ap, subst, ◌∙◌, arith, eq-eqb}
-use Rattle.std.specs.Prelude.{◌==◌}
+use Rattle.std.proofs.Common.{◌≡◌, ℕ, zero, suc, pos, neg_ℤ, ◌+◌, ◌^◌, ◌<◌, ◌≤◌, true, false, List, [], ◌∷◌, ◌++◌, replicate}
+use Rattle.std.proofs.Common.{map, All, Contains, refl, sym, ap, subst, ◌∙◌, arith, eq-eqb}
+use Rattle.std.specs.List.{list_all}
+use Rattle.std.specs.Prelude.{◌==◌, nat_lt}
 use Rattle.std.specs.Int.Signed.{le_z_yes}
-use Rattle.std.proofs.lemmas.Bool.{false≢true}
+use Rattle.std.proofs.lemmas.Bool.{false≢true, ltb-true}
+use Rattle.std.proofs.lemmas.List.Sums.{AllPass-from_list_all}
 use Rattle.std.proofs.lemmas.List.Elements.{All-set, All-replicate}
 use Rattle.assert_bind.specs.declared.body.BoundAssertion.{BoundAssertion}
 use Rattle.assert_bind.specs.declared.body.BoundBody.{BoundBody}
 use Rattle.assert_bind.specs.declared.body.BoundBody.TheVariants as body
+use Rattle.bt_image.specs.Checked.{IsAccepted}
 use Rattle.bt_image.specs.File.{word_field, half_field}
 use Rattle.bt_image.specs.Image.{holder, held}
+use Rattle.bt_image.specs.Refusal.{first_refusal, checked_refusal, header_refusal, headers_refusal, sections_refusal, section_fault}
+use Rattle.bt_image.specs.Refusal.{overlap_refusal, overlap, symbols_refusal, limits_refusal}
 use Rattle.bt_image.specs.Section.{section_at}
+use Rattle.bt_image.specs.Symbol.{functions, symbol_count}
 use Rattle.graph_laws.proofs.Walks.{passes-append}
 use Rattle.graph_laws.specs.Walk.{passes}
 use Rattle.sparc_decode.specs.Instr.{instruction_of}
@@ -18,7 +25,9 @@ use Rattle.sparc_machine.specs.declared.free.Free.{Free}
 use Rattle.sparc_runs.specs.Activation.{Activation, activations_at, places_of}
 use Rattle.sparc_runs.specs.Meets.{IsShown, KeepsLoops, KeepsStubs, Meets}
 use Rattle.sparc_runs.specs.Stub.{StubKeeps}
-use Rattle.sparc_runs.specs.Worked.{image, costs, first_registers, at_call, at_delay, at_entry, at_return, at_head, at_turn, at_head_again, behind, the_frame, heads, kept, broken, IsWorkedRun, HasWorkedFrames, RunsMeetAndBreak}
+use Rattle.sparc_runs.specs.Worked.{image, costs, first_registers, at_call, at_delay, at_entry, at_return, at_head}
+use Rattle.sparc_runs.specs.Worked.{at_turn, at_head_again, behind, the_frame, heads, kept, broken, IsWorkedRun}
+use Rattle.sparc_runs.specs.Worked.{HasWorkedFrames, RunsMeetAndBreak}
 
 abbrev nothing : Free
 nothing = record { first = 0; second = 0; flags = 0; taken = false }
@@ -50,6 +59,16 @@ step_six : StepsTo image costs at_turn at_head_again
 unfolding holder held word_field half_field section_at instruction_of
 step_six = record { free = nothing; within = nothing_free; steps = refl }
 
+-- numbers that pass the test are bytes
+bytes_from : (xs : List ℕ) → list_all (λ byte. nat_lt byte 256) xs ≡ true → All (λ byte. byte < 256) xs
+bytes_from xs h k d less = ltb-true _ 256 (AllPass-from_list_all (λ byte. nat_lt byte 256) xs h k d less)
+
+-- the file is accepted
+accepted : IsAccepted image
+unfolding first_refusal checked_refusal header_refusal headers_refusal sections_refusal section_fault overlap_refusal overlap
+    symbols_refusal limits_refusal functions symbol_count word_field half_field section_at
+accepted = record { unrefused = refl; bytes = bytes_from image refl }
+
 registers_are_words : All (λ (word : ℕ). word < 2 ^ 32) first_registers
 registers_are_words =
     All-set (λ (word : ℕ). word < 2 ^ 32) (replicate 136 0) 8 4112 (omega arith) (All-replicate (λ (word : ℕ). word < 2 ^ 32) 136 0 (omega arith))
@@ -57,6 +76,7 @@ registers_are_words =
 -- it is a run
 pub worked_run : IsWorkedRun
 worked_run = record {
+  accepted = accepted;
   begins = record {
     machine =
         record {

@@ -2,7 +2,8 @@
 use Rattle.std.specs.Prelude.{◌==◌, ◌≡◌, ℕ, ◌+◌, ◌-◌, ◌%◌, ◌^◌, ◌<◌, Bool, true, false, List, [], ◌∷◌}
 use Rattle.sparc_decode.specs.declared.instruction.Instr.{Instr}
 use Rattle.sparc_decode.specs.declared.instruction.Instr.TheVariants.{Call, Jmpl}
-use Rattle.sparc_machine.specs.Frame.{Frame, Transfer, Stays, Calls, Returns, Config, config_after, config_at, StepsTo, RunsFrom, BeginsAt, is_return, lets_call, instruction_at}
+use Rattle.sparc_machine.specs.Frame.{Frame, Transfer, Stays, Calls, Returns, Config, config_after, config_at, StepsTo}
+use Rattle.sparc_machine.specs.Frame.{RunsFrom, BeginsAt, is_return, lets_call, instruction_at}
 use Rattle.sparc_machine.specs.Machine.{IsMachine, register_of}
 use Rattle.sparc_machine.specs.Straight.{code_instruction, passes}
 use Rattle.sparc_machine.specs.declared.machine.Machine.{Machine}

@@ -3,15 +3,23 @@
 use Rattle.std.specs.Prelude.{◌≡◌, ◌≢◌, ℕ, ◌==◌, ◌&&◌, nat_le, pos, neg_ℤ, false, List, [], ◌∷◌, ◌++◌, replicate, slice_set, None, All}
 use Rattle.assert_bind.specs.declared.body.BoundAssertion.{BoundAssertion}
 use Rattle.assert_bind.specs.declared.body.BoundBody.TheVariants as body
+use Rattle.bt_image.specs.Checked.{IsAccepted}
 use Rattle.sparc_decode.specs.declared.instruction.Instr.TheVariants.{Jmpl}
 use Rattle.sparc_decode.specs.declared.instruction.Second.TheVariants.{Imm}
 use Rattle.sparc_machine.specs.Frame.{Frame, Stays, Calls, Returns, RunsFrom, BeginsAt, transfer_by, root_frame, due_at, frames_at}
 use Rattle.sparc_machine.specs.declared.machine.Machine.{Machine}
 use Rattle.sparc_runs.specs.Meets.{Heads, Meets}
 
--- the header of a file: its section headers begin at 52, and there is one
+-- what a file begins with: the magic number, 32 bits, the highest byte first, version 1
+abbrev pub identification : List ℕ
+identification = 0x7f ∷ 0x45 ∷ 0x4c ∷ 0x46 ∷ 1 ∷ 2 ∷ 1 ∷ replicate 9 0
+
+-- the header of a file: an executable for SPARC, version 1, with its entry at 4096; its section headers begin at 52, of 40
+-- bytes each, and there is one
 abbrev pub file_header : List ℕ
-file_header = replicate 32 0 ++ 0 ∷ 0 ∷ 0 ∷ 52 ∷ replicate 12 0 ++ 0 ∷ 1 ∷ 0 ∷ 0 ∷ []
+file_header =
+    identification ++ 0 ∷ 2 ∷ 0 ∷ 2 ∷ 0 ∷ 0 ∷ 0 ∷ 1 ∷ 0 ∷ 0 ∷ 16 ∷ 0 ∷ replicate 4 0 ++ 0 ∷ 0 ∷ 0 ∷ 52 ∷ replicate 4 0
+    ++ 0 ∷ 52 ∷ replicate 4 0 ++ 0 ∷ 40 ∷ 0 ∷ 1 ∷ 0 ∷ 0 ∷ []
 
 -- a section of type PROGBITS that is allocated and executable: 24 bytes at address 4096, from place 92 of the file on
 abbrev pub section_header : List ℕ
@@ -101,8 +109,9 @@ broken =
     ∷ record { line = 6; body = body.Stub 4112 1 }
     ∷ []
 
--- it is a run, from 4096 on
+-- it is a run over an accepted file, from 4096 on
 pub record IsWorkedRun : Type 0 where
+  pub accepted : IsAccepted image
   pub begins : BeginsAt 4096 at_call
   pub runs : RunsFrom image costs at_call behind
 

@@ -134,6 +134,7 @@ module _ (image costs : List ℕ) (list : List BoundAssertion) (y : StackFacts) 
             stub = λ is_one plain returns. (
               subst (λ (G : Frame). Lands x G next) (ap (head_of lowest) are) pop.lands,
               subst (λ (l : List Frame). GoesBack y (head_of lowest l) (tail_of l) next) are pop.goes,
+              pop.still,
             );
           };
         }

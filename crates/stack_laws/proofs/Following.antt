@@ -192,6 +192,7 @@ module _ (image costs : List ℕ) (list : List BoundAssertion) (y : StackFacts) 
     pub clear : IsClear image list y x invalid (transfer_of image m) below rest next
     pub lands : Lands x lowest next
     pub goes : GoesBack y lowest (below ∷ rest) next
+    pub still : transfer_of image m ≡ Stays
 
   pub popped : (lowest below : Frame) (rest : List Frame) (m next : Machine) → IsRunning image invalid (record { machine = m; due = Returns; frames = lowest ∷ below ∷ rest })
       → IsRunning image invalid (record { machine = next; due = transfer_of image m; frames = below ∷ rest }) → StepsTo image costs m next
@@ -235,4 +236,5 @@ module _ (image costs : List ℕ) (list : List BoundAssertion) (y : StackFacts) 
         };
         lands = record { skip = false; comes = up.returns; pc = back.pc; npc = npc; window = back.window };
         goes = goes.edge;
+        still = on.due;
       }

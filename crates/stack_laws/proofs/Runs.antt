@@ -1,7 +1,8 @@
 -- Up to its first gap each place of a run is followed.
-use Rattle.std.proofs.Common.{◌≡◌, ℕ, zero, suc, ◌<◌, ◌≤◌, inl, Bool, true, false, List, [], ◌∷◌, length, refl, sym, ap, subst, arith}
-use Rattle.std.specs.Prelude.{nat_lt}
+use Rattle.std.proofs.Common.{◌≡◌, ℕ, zero, suc, ◌<◌, ◌≤◌, inl, Bool, true, false, List, [], ◌∷◌, Option, Some, None, length, refl, sym, ap, subst, arith}
+use Rattle.std.specs.Prelude.{nat_lt, is_some}
 use Rattle.std.proofs.lemmas.Bool.Decides.{nat_tests}
+use Rattle.assert_bind.specs.Binding.{stub}
 use Rattle.assert_bind.specs.Sight.{MeetsEach}
 use Rattle.assert_bind.specs.declared.body.BoundAssertion.{BoundAssertion}
 use Rattle.sparc_machine.specs.Frame.{Frame, Config, StepsTo, config_after, config_at, first_config}
@@ -19,6 +20,11 @@ use Rattle.stack_laws.specs.Followed.{Holds, IsBeforeGaps, IsFollowable, IsFollo
 use Rattle.stack_laws.specs.Standing.{StackFacts}
 use Rattle.stack_laws.specs.StepFacts.{is_stub}
 use Rattle.transfer_rules.specs.Give.{Facts}
+
+-- what there is
+told : {A : Type 0} → (o : Option A) → is_some o ≡ true → (a : A) × (o ≡ Some a)
+told None there = cc
+told (Some a) there = (a, refl)
 
 -- the window of a stack's root is that in which the run began
 root_is : (image : List ℕ) (invalid : ℕ) (first : Machine) (top : Frame) (rest : List Frame) → ArePushed image invalid first (top ∷ rest)
@@ -57,10 +63,11 @@ module _
               (let t : nat_lt i (length rest) ≡ true = grind (arith, nat_tests) in
               subst (λ (b : Bool). MeetsEach list (sight_of image (here i).machine b)) t (ask.meets i (omega arith)));
           back = λ F G below due are is_one.
-              (let keeps = ask.stubs F.sub is_one in
+              (let time = told (stub list F.sub) is_one in
+              let keeps = ask.stubs F.sub time.0 time.1 in
               subst (λ (w : ℕ). StubReturns w F (here (suc i)).machine)
               (sym (root_is image invalid first F (G ∷ below) (subst (λ (l : List Frame). ArePushed image invalid first l) are (running i).pushed)))
-              (keeps.1 i F G below within due are refl).returns);
+              (keeps i F G below within due are refl).returns);
         }
 
     next_is : (i : ℕ) → i < length rest → here (suc i) ≡ config_after image (here i) (here (suc i)).machine

@@ -1,6 +1,7 @@
 -- What holds at each place of a run, and how each step is followed: by an edge, by a call, or by a return behind one.
-use Rattle.std.specs.Prelude.{◌≡◌, ℕ, suc, ◌+◌, ◌%◌, ◌^◌, ◌<◌, ◌≤◌, ◌⊎◌, Bool, true, false, List, [], ◌∷◌, ◌++◌, length, is_some}
+use Rattle.std.specs.Prelude.{◌≡◌, ℕ, suc, ◌+◌, ◌%◌, ◌^◌, ◌<◌, ◌≤◌, ◌⊎◌, Bool, true, false, List, [], ◌∷◌, ◌++◌, length, Some, is_some}
 use Rattle.abs_state.specs.declared.key.Key.TheVariants as key
+use Rattle.assert_bind.specs.Binding.{stub}
 use Rattle.assert_bind.specs.Sight.{MeetsEach}
 use Rattle.assert_bind.specs.declared.body.BoundAssertion.{BoundAssertion}
 use Rattle.sparc_machine.specs.Frame.{Frame, Transfer, Stays, Calls, Returns, Config, RunsFrom, BeginsAt, config_at, root_frame, machine_at}
@@ -67,7 +68,8 @@ IsFollowed image y x Returns after top rest m next = Lands x top next × GoesBac
 -- pops the lowest one it goes back
 pub record IsStepFollowed (image : List ℕ) (list : List BoundAssertion) (y : StackFacts) (x : Facts) (c next : Config) (top : Frame) (rest : List Frame) : Type 0 where
   pub plain : ArePlain list (top ∷ rest) → IsFollowed image y x c.due next.due top rest c.machine next.machine
-  pub stub : is_stub list top.sub ≡ true → ArePlain list rest → c.due ≡ Returns → Lands x top next.machine × GoesBack y top rest next.machine
+  pub stub : is_stub list top.sub ≡ true → ArePlain list rest → c.due ≡ Returns
+      → Lands x top next.machine × GoesBack y top rest next.machine × (next.due ≡ Stays)
 
 -- no machine of a run before a place stands at a gap in a frame that is looked into
 abbrev pub IsBeforeGaps : List ℕ → List BoundAssertion → Facts → Machine → List Machine → ℕ → Type 0
@@ -77,7 +79,7 @@ IsBeforeGaps image list x first rest place =
 
 -- each stub's frame keeps what is asserted of the stub
 abbrev pub KeepsAllStubs : List ℕ → List BoundAssertion → Machine → List Machine → Type 0
-KeepsAllStubs image list first rest = (entry : ℕ) → is_stub list entry ≡ true → (time : ℕ) × KeepsStubs image first rest entry time
+KeepsAllStubs image list first rest = (entry time : ℕ) → stub list entry ≡ Some time → KeepsStubs image first rest entry time
 
 -- what a run is asked, from a root on
 pub record IsFollowable (image costs : List ℕ) (list : List BoundAssertion) (y : StackFacts) (x : Facts) (root : ℕ) (first : Machine) (rest : List Machine)

@@ -335,7 +335,7 @@ module _ (image : List ℕ) (free : Free) (cwp : ℕ) (p : Place) (m : Machine) 
               is_second = operand_is cwp p.depth m at machine second range;
               aligned = ap (λ (x : ℕ). x % 4) sum ∙ aligned;
               read = λ v stands.
-                  (let c = word_is_constant image a v accepted (sym (ap (λ (x : ℕ). word image x) sum) ∙ stands) in
+                  (let c = word_is_constant image a v (sym (ap (λ (x : ℕ). word image x) sum) ∙ stands) in
                   ap (λ (o : Option (List ℕ)). read_number o 4 free.first) c.are ∙ sym c.number);
             };
       }

@@ -1,8 +1,10 @@
-//! The worked rows of the crates that threads share: the board and the parts. It alone of the crates of tests has
-//! handles.
+//! The worked rows of the crates that threads share: the board, the parts and the pool. It alone of the crates of
+//! tests has handles.
 #![tactic(auto)]
 
 #[cfg(test)]
 mod board;
 #[cfg(test)]
 mod parts;
+#[cfg(test)]
+mod pools;

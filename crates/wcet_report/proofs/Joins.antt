@@ -1,14 +1,13 @@
 -- What is appended piece by piece is what is appended at once.
-use Rattle.std.proofs.Common.{◌≡◌, ℕ, ◌+◌, ◌<◌, Bool, true, false, List, [], ◌∷◌, ◌++◌, length, drop, get_or, suc, refl, ap, sym, ◌∙◌, subst, arith, append_assoc, drop-cons, codes, if◌then◌else◌}
+use Rattle.std.proofs.Common.{◌≡◌, ℕ, ◌+◌, ◌<◌, ◌≤◌, ◌⊎◌, inl, inr, List, [], ◌∷◌, ◌++◌, length, drop, get_or, min, suc, refl, ap, sym, ◌∙◌, subst, arith, append_assoc, append-nil, length-append, drop-cons, codes}
+use Rattle.std.proofs.lemmas.Bool.{cases_lt}
+use Rattle.std.proofs.lemmas.List.{drop_all}
 use Rattle.std.proofs.lemmas.List.Concat.{flat_map-append}
-use Rattle.std.proofs.lemmas.Bool.{false≢true, and_parts}
 use Rattle.std.specs.List.Sorted.{IsPermutation, IsSortedByKey}
-use Rattle.std.specs.Prelude.{◌&&◌}
 use Rattle.value_lattice.specs.declared.value.Value.{Value}
-use Rattle.wcet_report.specs.Context.{argument_names, argument_words, known, known_or_any, are_any}
+use Rattle.wcet_report.specs.Context.{argument_names, argument_words, known, known_or_any}
 use Rattle.wcet_report.specs.Line.{spaced}
 use Rattle.wcet_report.specs.Order.{place_cmp, AreByHead}
-use Rattle.wcet_report.specs.Value.{value_text, is_any}
 use Rattle.wcet_report.specs.declared.loops.LoopOutcome.{LoopOutcome}
 
 -- words behind words
@@ -46,30 +45,39 @@ known_more all before after values k v in_names in_values is so_far put =
     ∙ ap (λ words. before ++ spaced words) (sym (known_at argument_names values k v in_names in_values is))
     ∙ so_far
 
-words_if_any : (b : Bool) (name : List ℕ) (v : Value) → b ≡ true → (if b then [] else (name ++ (codes "=" ++ value_text v)) ∷ []) ≡ []
-words_if_any b name v given = ap (λ c. if c then [] else (name ++ (codes "=" ++ value_text v)) ∷ []) given
+no_values : (names : List (List ℕ)) → known names [] ≡ []
+no_values [] = refl
+no_values (n ∷ ns) = refl
 
--- where nothing is known of any argument there are no words
-pub none_known : (names : List (List ℕ)) (values : List Value) → are_any values ≡ true → known names values ≡ []
-none_known [] values any = refl
-none_known (n ∷ ns) [] any = refl
-none_known (n ∷ ns) (v ∷ vs) any =
-    let both : (is_any v ≡ true) × (are_any vs ≡ true) = and_parts (is_any v) (are_any vs) any in
-    ap (λ words. words ++ known ns vs) (words_if_any (is_any v) n v both.0) ∙ none_known ns vs both.1
+-- past the last name or the last value nothing is known
+pub known_ends : (names : List (List ℕ)) (values : List Value) (k : ℕ) → length names ≤ k ⊎ (length values ≤ k)
+    → known (drop k names) (drop k values) ≡ []
+known_ends names values k (inl ends) = ap (λ ns. known ns (drop k values)) (drop_all k names ends)
+known_ends names values k (inr ends) = ap (λ vs. known (drop k names) vs) (drop_all k values ends) ∙ no_values (drop k names)
 
-some_if : (b : Bool) (n : List ℕ) (v : Value) (rest : List (List ℕ)) (all : Bool) → (b && all) ≡ false → (all ≡ false → known_or_any rest ≡ rest)
-    → known_or_any ((if b then [] else (n ++ (codes "=" ++ value_text v)) ∷ []) ++ rest) ≡ (if b then [] else (n ++ (codes "=" ++ value_text v)) ∷ []) ++ rest
-some_if true n v rest all some others = others some
-some_if false n v rest all some others = refl
+cases_ends : (values : List Value) (k n : ℕ) → n ≡ min (length values) 13 → n ≤ k → length argument_names ≤ k ⊎ (length values ≤ k)
+cases_ends values k n is past = elim (cases_lt (length values) 13) [
+  | inl fewer ↦ inr (omega (arith, is, past, fewer))
+  | inr many ↦ inl (omega (arith, is, past, many))
+]
 
--- where something is known of one there are words
-pub some_known : (names : List (List ℕ)) (values : List Value) → length values ≡ length names → are_any values ≡ false
-    → known_or_any (known names values) ≡ known names values
-some_known [] [] long some = absurd (false≢true (sym some))
-some_known [] (v ∷ vs) long some = absurd (omega (arith, long))
-some_known (n ∷ ns) [] long some = absurd (omega (arith, long))
-some_known (n ∷ ns) (v ∷ vs) long some =
-    some_if (is_any v) n v (known ns vs) (are_any vs) some (some_known ns vs (omega (arith, long)))
+-- once all are gone through all is appended
+pub known_done : (all now : List ℕ) (values : List Value) (k n : ℕ) → n ≡ min (length values) 13 → n ≤ k
+    → now ++ spaced (known (drop k argument_names) (drop k values)) ≡ all → now ≡ all
+known_done all now values k n is past so_far =
+    sym (append-nil now) ∙ ap (λ words. now ++ spaced words) (sym (known_ends argument_names values k (cases_ends values k n is past))) ∙ so_far
+
+-- where no argument is written there are no words, and one stands in for them
+pub any_put : (text : List ℕ) (words : List (List ℕ)) → length (text ++ spaced words) ≡ length text
+    → (text ++ spaced words) ++ spaced (codes "any" ∷ []) ≡ text ++ spaced (known_or_any words)
+any_put text [] same = ap (λ t. t ++ spaced (codes "any" ∷ [])) (append-nil text)
+any_put text (w ∷ ws) same = absurd (omega (arith, same, length-append text (spaced (w ∷ ws))))
+
+-- where some are written they stand for themselves
+pub some_put : (text : List ℕ) (words : List (List ℕ)) → (length (text ++ spaced words) ≡ length text → ⊥)
+    → text ++ spaced words ≡ text ++ spaced (known_or_any words)
+some_put text [] other = absurd (other (ap length (append-nil text)))
+some_put text (w ∷ ws) other = refl
 
 -- a list of loops that was sorted is by rising head
 pub by_head_from : (loops list sorted : List LoopOutcome) → list ≡ loops → IsPermutation list sorted

@@ -1,8 +1,14 @@
+pub mod ContextTexts
 pub mod Cuts
 pub mod Joins
 pub mod LineTexts
+pub mod LineWords
 pub mod Numbers
 pub mod Points
 pub mod Ranks
+pub mod ReportOnce
 pub mod Reports
+pub mod Sortings
+pub mod Tellings
 pub mod ValueTexts
+pub mod Within

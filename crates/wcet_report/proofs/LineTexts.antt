@@ -47,10 +47,10 @@ line_is first rest text =
     append_assoc first (spaced rest ++ codes "\n") text
     ∙ ap (λ more. first ++ more) (append_assoc (spaced rest) (codes "\n") text ∙ behind_is rest text)
 
-word_clean : (word : List ℕ) (words : List (List ℕ)) → AreClean (word ∷ words) → Lacks ends_word word
+pub word_clean : (word : List ℕ) (words : List (List ℕ)) → AreClean (word ∷ words) → Lacks ends_word word
 word_clean word words clean = record { is = (and_parts (lacks ends_word word) (are_clean words) clean.is).0 }
 
-words_clean : (word : List ℕ) (words : List (List ℕ)) → AreClean (word ∷ words) → AreClean words
+pub words_clean : (word : List ℕ) (words : List (List ℕ)) → AreClean (word ∷ words) → AreClean words
 words_clean word words clean = record { is = (and_parts (lacks ends_word word) (are_clean words) clean.is).1 }
 
 pub clean-cons : (word : List ℕ) (words : List (List ℕ)) → Lacks ends_word word → AreClean words → AreClean (word ∷ words)

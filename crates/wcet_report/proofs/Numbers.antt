@@ -44,7 +44,7 @@ pub record NoDigit (stops : ℕ → Bool) : Type 0 where
   pub hexadecimal : (d : ℕ) → d < 16 → stops (hex_digit d) ≡ false
   pub sign : stops 45 ≡ false
 
-lacks_one : (stops : ℕ → Bool) (b : ℕ) (bs : List ℕ) → stops b ≡ false → Lacks stops bs → Lacks stops (b ∷ bs)
+pub lacks_one : (stops : ℕ → Bool) (b : ℕ) (bs : List ℕ) → stops b ≡ false → Lacks stops bs → Lacks stops (b ∷ bs)
 lacks_one stops b bs at rest = record { is = grind (arith, at, rest.is) }
 
 pub lacks_decimal : (stops : ℕ → Bool) → NoDigit stops → (n : ℕ) → n < 2 ^ 64 → Lacks stops (decimal n)

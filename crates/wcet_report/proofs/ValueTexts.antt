@@ -1,5 +1,5 @@
 -- Texts of values tell the values, and have no byte but their own.
-use Rattle.std.proofs.Common.{◌≡◌, ℕ, ◌^◌, ◌<◌, ℤ, Bool, List, [], ◌∷◌, ◌++◌, refl, ap, sym, ◌∙◌, subst, arith, codes, append_assoc}
+use Rattle.std.proofs.Common.{◌≡◌, ℕ, ◌^◌, ◌<◌, ℤ, Bool, false, List, [], ◌∷◌, ◌++◌, refl, ap, sym, ◌∙◌, subst, arith, codes, append_assoc}
 use Rattle.std.proofs.lemmas.Bool.{false≢true, and_parts}
 use Rattle.std.proofs.lemmas.Bool.Decides.{nat_tests}
 use Rattle.std.proofs.lemmas.Fmt.{signed_decimal_injective}
@@ -17,7 +17,7 @@ use Rattle.value_lattice.specs.Value.{IsValue}
 use Rattle.value_lattice.specs.declared.value.Value.{Value}
 use Rattle.value_lattice.specs.declared.value.Value.TheVariants.{Words, Range, Ret}
 use Rattle.wcet_report.proofs.Cuts.{lacks, Lacks, lacks-append, cut_once, first_byte, bytes_behind}
-use Rattle.wcet_report.proofs.Numbers.{NoDigit, lacks_signed}
+use Rattle.wcet_report.proofs.Numbers.{NoDigit, lacks_one, lacks_signed}
 use Rattle.wcet_report.specs.Value.{by_sign, parted, value_text}
 
 -- a word ends at a comma or at the closing brace
@@ -209,3 +209,30 @@ value_tells Ret (Words ys) at_a at_b same = absurd (set_not_ret ys (sym same))
 value_tells Ret (Range lo hi) at_a at_b same =
     absurd (ret_not_free (subst (λ text. Lacks is_other text) (sym same) (range_free lo hi (fits_small lo at_b.0) (fits_small hi at_b.1))))
 value_tells Ret Ret at_a at_b same = refl
+
+abbrev ends_one : ℕ → Bool
+ends_one b = b == 32 || (b == 10)
+
+one_free : NoDigit ends_one
+one_free = record {
+  decimal = λ d less. grind (arith, nat_tests);
+  hexadecimal = λ d less. grind (arith, nat_tests);
+  sign = refl;
+}
+
+lacks_parted : (before : ℕ) (words : List ℕ) → ends_one before ≡ false → AreWords words → Lacks ends_one (parted before words)
+lacks_parted before [] free at = record { is = refl }
+lacks_parted before (w ∷ ws) free at =
+    lacks_one ends_one before (signed_decimal (cast_signed w32 w) ++ parted 44 ws) free
+    (lacks-append ends_one (signed_decimal (cast_signed w32 w)) (parted 44 ws)
+    (lacks_signed ends_one one_free (cast_signed w32 w) (mag_small w at.0)) (lacks_parted 44 ws refl at.1))
+
+-- the text of a value has neither a space nor the end of a line in it
+pub lacks_value : (value : Value) → IsValue value → Lacks ends_one (value_text value)
+unfolding value_text
+lacks_value (Words xs) at =
+    lacks-append ends_one (parted 123 (by_sign xs)) (codes "}") (lacks_parted 123 (by_sign xs) refl (by_sign_words xs at)) (record { is = refl })
+lacks_value (Range lo hi) at =
+    lacks-append ends_one (signed_decimal lo) (codes ".." ++ signed_decimal hi) (lacks_signed ends_one one_free lo (fits_small lo at.0))
+    (lacks-append ends_one (codes "..") (signed_decimal hi) (record { is = refl }) (lacks_signed ends_one one_free hi (fits_small hi at.1)))
+lacks_value Ret at = record { is = refl }

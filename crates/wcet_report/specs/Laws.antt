@@ -8,7 +8,7 @@ use Rattle.abs_state.specs.declared.key.Place.{Place}
 use Rattle.value_lattice.specs.Value.{IsValue}
 use Rattle.wcet_report.specs.Order.{AreOrdered, AreByHead}
 use Rattle.wcet_report.specs.Outcome.{context_line, loop_line, reason_line}
-use Rattle.wcet_report.specs.Report.{AreReportable, IsReport}
+use Rattle.wcet_report.specs.Report.{AreReportable, IsReport, root_line}
 use Rattle.wcet_report.specs.declared.context.Context.{Context}
 use Rattle.wcet_report.specs.declared.context.Context.TheVariants.{Plain, With}
 use Rattle.wcet_report.specs.declared.loops.By.{By}
@@ -80,6 +80,11 @@ pub record HasWithin (part text : List ℕ) : Type 0 where
   pub before : List ℕ
   pub after : List ℕ
   pub is : text ≡ before ++ (part ++ after)
+
+-- the line of each root stands in the report
+abbrev pub ReportHasRoots : Type 0
+ReportHasRoots = (image : List ℕ) (outcomes : Outcomes) (text : List ℕ) (root : ℕ)
+    → IsReport image outcomes text → Contains outcomes.roots root → HasWithin (root_line image outcomes.list root) text
 
 -- the lines of each outcome stand in the report: that of its context, and of each loop and each reason
 abbrev pub ReportHasEach : Type 0

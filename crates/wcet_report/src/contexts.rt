@@ -1,5 +1,5 @@
-ghost use Rattle.std.specs.Prelude.{◌≡◌, ◌++◌, ◌<◌, [], IfOk, length, slice_index_or};
-ghost use Rattle.wcet_report.specs.Context.{argument_names, argument_words, known, known_or_any, context_text, HasArguments, are_any as are_any_so, is_open as is_open_so};
+ghost use Rattle.std.specs.Prelude.{◌≡◌, ◌++◌, ◌<◌, [], IfOk, slice_index_or};
+ghost use Rattle.wcet_report.specs.Context.{argument_names, argument_words, known, known_or_any, context_text, are_any as are_any_so, is_open as is_open_so};
 ghost use Rattle.wcet_report.specs.Line.{spaced};
 
 use crate::context::Context;
@@ -60,10 +60,9 @@ fn put_argument(alloc: Global, text: &mut Vec<u8>, k: usize, value: &Value) -> R
 
 /// Appends each argument of which something is known, behind a space.
 fn put_known(alloc: Global, text: &mut Vec<u8>, values: &[Value]) -> Result<(), Want>
-    requires { length values.now ≡ 13 }
     ensures { IfOk result (λ _. text.new.items ≡ text.old.items ++ spaced (known argument_names values.now)) }
 {
-    for k in 0..values.len() {
+    for k in 0..values.len().min(13) {
         put_argument(alloc, text, k, &values[k])?;
     }
     Ok(())
@@ -71,19 +70,19 @@ fn put_known(alloc: Global, text: &mut Vec<u8>, values: &[Value]) -> Result<(), 
 
 /// Appends what is known of the arguments, behind spaces.
 fn put_arguments(alloc: Global, text: &mut Vec<u8>, values: &[Value]) -> Result<(), Want>
-    requires { length values.now ≡ 13 }
     ensures { IfOk result (λ _. text.new.items ≡ text.old.items ++ spaced (known_or_any (known argument_names values.now))) }
 {
-    if are_any(values) {
+    let before = text.len();
+    put_known(alloc, text, values)?;
+    if text.len() == before {
         return put_word(text, b"any");
     }
-    put_known(alloc, text, values)
+    Ok(())
 }
 
 /// Appends the text of a context.
 #[tactic(auto, unfolding(crate::specs::Context::context_text))]
 pub(crate) fn put_context(alloc: Global, text: &mut Vec<u8>, context: &Context) -> Result<(), Want>
-    requires { HasArguments context.now }
     ensures { IfOk result (λ _. text.new.items ≡ text.old.items ++ context_text context.now) }
 {
     match context {

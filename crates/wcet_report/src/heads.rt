@@ -1,10 +1,9 @@
-ghost use Rattle.std.specs.Prelude.{◌≡◌, ◌++◌, ◌∷◌, ◌<◌, [], All, IfOk, codes, decimal};
+ghost use Rattle.std.specs.Prelude.{◌≡◌, ◌++◌, ◌∷◌, [], IfOk, codes, decimal};
 ghost use Rattle.std.specs.Fmt.{signed_decimal};
 ghost use Rattle.std.specs.List.{flat_map};
 ghost use Rattle.wcet_report.specs.Line.{spaced};
-ghost use Rattle.wcet_report.specs.Node.{cell_text};
 ghost use Rattle.wcet_report.specs.Order.{AreByHead};
-ghost use Rattle.wcet_report.specs.Outcome.{by_words, loop_line, HasCell};
+ghost use Rattle.wcet_report.specs.Outcome.{by_words, loop_line};
 ghost use Rattle.wcet_report.specs.Progress.{PutsByHead};
 
 use crate::lines::{put_number, put_word};
@@ -48,7 +47,6 @@ fn put_range(text: &mut Vec<u8>, bound: &HeadBound) -> Result<(), Want>
 
 /// Appends the words of a counter.
 fn put_counter(text: &mut Vec<u8>, bound: &HeadBound) -> Result<(), Want>
-    requires { bound.now.cell < 48 }
     ensures { IfOk result (λ _. text.new.items ≡ text.old.items ++ spaced (by_words (By.Counter bound.now))) }
 {
     put_passes(text, bound.passes)?;
@@ -68,7 +66,6 @@ fn put_asserted(text: &mut Vec<u8>, count: u64) -> Result<(), Want>
 
 /// Appends the words of what bounds a loop.
 fn put_by(text: &mut Vec<u8>, by: &By) -> Result<(), Want>
-    requires { HasCell by.now }
     ensures { IfOk result (λ _. text.new.items ≡ text.old.items ++ spaced (by_words by.now)) }
 {
     match by {
@@ -81,7 +78,6 @@ fn put_by(text: &mut Vec<u8>, by: &By) -> Result<(), Want>
 /// Appends the line of a loop.
 #[tactic(auto, unfolding(crate::specs::Line::line_of))]
 fn put_loop(text: &mut Vec<u8>, each: &LoopOutcome) -> Result<(), Want>
-    requires { HasCell each.now.by }
     ensures { IfOk result (λ _. text.new.items ≡ text.old.items ++ loop_line each.now) }
 {
     text.extend_from_slice(b"loop")?;
@@ -93,7 +89,6 @@ fn put_loop(text: &mut Vec<u8>, each: &LoopOutcome) -> Result<(), Want>
 
 /// Appends the lines of loops.
 fn put_each(text: &mut Vec<u8>, loops: &[LoopOutcome]) -> Result<(), Want>
-    requires { All (λ each. HasCell each.by) loops.now }
     ensures { IfOk result (λ _. text.new.items ≡ text.old.items ++ flat_map loop_line loops.now) }
 {
     for each in loops {
@@ -121,7 +116,6 @@ pub(crate) fn put_loops(
     text: &mut Vec<u8>,
     loops: &[LoopOutcome],
 ) -> Result<(), Want>
-    requires { All (λ each. HasCell each.by) loops.now }
     ensures { IfOk result (λ _. PutsByHead loops.now text.old.items text.new.items) }
 {
     let list = by_head(alloc, loops)?;

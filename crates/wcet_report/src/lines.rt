@@ -8,7 +8,7 @@ use bt_base::{Want, hex8, put_decimal};
 use bt_image::Image;
 
 /// Appends a space and a word.
-pub(crate) fn put_word(text: &mut Vec<u8>, word: &[u8]) -> Result<(), Want>
+pub fn put_word(text: &mut Vec<u8>, word: &[u8]) -> Result<(), Want>
     ensures { IfOk result (λ _. text.new.items ≡ text.old.items ++ spaced (word.now ∷ [])) }
 {
     text.push(b' ')?;
@@ -17,7 +17,7 @@ pub(crate) fn put_word(text: &mut Vec<u8>, word: &[u8]) -> Result<(), Want>
 }
 
 /// Appends a space and an address in eight hexadecimal digits.
-pub(crate) fn put_address(text: &mut Vec<u8>, address: u32) -> Result<(), Want>
+pub fn put_address(text: &mut Vec<u8>, address: u32) -> Result<(), Want>
     ensures { IfOk result (λ _. text.new.items ≡ text.old.items ++ spaced (hex8_of address ∷ [])) }
 {
     put_word(text, &hex8(address))
@@ -69,7 +69,7 @@ fn put_name_of(text: &mut Vec<u8>, image: &Image, entry: u32) -> Result<(), Want
 
 /// Appends the words of the function at an address, each behind a space.
 #[tactic(auto, unfolding(crate::specs::Line::function_words))]
-pub(crate) fn put_function(text: &mut Vec<u8>, image: &Image, entry: u32) -> Result<(), Want>
+pub fn put_function(text: &mut Vec<u8>, image: &Image, entry: u32) -> Result<(), Want>
     ensures { IfOk result (λ _. text.new.items ≡ text.old.items ++ spaced (function_words image.now entry)) }
 {
     put_address(text, entry)?;

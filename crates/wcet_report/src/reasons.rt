@@ -21,7 +21,7 @@ fn put_at(text: &mut Vec<u8>, word: &[u8], address: u32) -> Result<(), Want>
 }
 
 /// Appends a program point behind a space.
-pub(crate) fn put_point(text: &mut Vec<u8>, place: &Place) -> Result<(), Want>
+pub fn put_point(text: &mut Vec<u8>, place: &Place) -> Result<(), Want>
     ensures { IfOk result (λ _. text.new.items ≡ text.old.items ++ spaced (node_text place.now ∷ [])) }
 {
     text.push(b' ')?;

@@ -1,9 +1,8 @@
 ghost use Rattle.std.specs.Prelude.{◌≡◌, ◌++◌, ◌<◌, All, IfOk, length, map};
-ghost use Rattle.wcet_report.specs.Context.{HasArguments};
-ghost use Rattle.wcet_report.specs.Outcome.{HasCell, context_line};
+ghost use Rattle.wcet_report.specs.Outcome.{context_line};
 ghost use Rattle.wcet_report.specs.Progress.{PutsLines, PutsEach};
 ghost use Rattle.wcet_report.specs.Ranking.{picked};
-ghost use Rattle.wcet_report.specs.Report.{IsReport, AreReportable};
+ghost use Rattle.wcet_report.specs.Report.{IsReport};
 
 use crate::contexts::put_context;
 use crate::heads::put_loops;
@@ -19,7 +18,6 @@ use std::alloc::Global;
 /// Appends the line of a context.
 #[tactic(auto, unfolding(crate::specs::Line::line_of, crate::specs::Context::context_text))]
 fn put_line(alloc: Global, text: &mut Vec<u8>, image: &Image, outcome: &Outcome) -> Result<(), Want>
-    requires { HasArguments outcome.now.context }
     ensures { IfOk result (λ _. text.new.items ≡ text.old.items ++ context_line image.now outcome.now) }
 {
     text.extend_from_slice(b"context")?;
@@ -38,8 +36,6 @@ fn put_outcome(
     image: &Image,
     outcome: &Outcome,
 ) -> Result<(), Want>
-    requires arguments { HasArguments outcome.now.context }
-    requires cells { All (λ each. HasCell each.by) outcome.now.loops }
     ensures { IfOk result (λ _. PutsLines image.now outcome.now text.old.items text.new.items) }
 {
     put_line(alloc, text, image, outcome)?;
@@ -55,9 +51,7 @@ fn put_contexts(
     list: &[Outcome],
     order: &[Rank],
 ) -> Result<(), Want>
-    requires below { All (λ rank. rank.index < length list.now) order.now }
-    requires arguments { All (λ outcome. HasArguments outcome.context) list.now }
-    requires cells { All (λ outcome. All (λ each. HasCell each.by) outcome.loops) list.now }
+    requires { All (λ rank. rank.index < length list.now) order.now }
     ensures { IfOk result (λ _. (d : Outcome) → PutsEach image.now (map (picked list.now d) order.now) text.old.items text.new.items) }
 {
     for rank in order {
@@ -71,7 +65,6 @@ fn put_contexts(
 /// The roots stand in their order, the contexts by their entry, the plain one first, and the others by the bytes of
 /// their text; the loops of a context by their head. Its lines end with a line feed, and it is ASCII.
 pub fn text(alloc: Global, outcomes: &Outcomes, image: &Image) -> Result<Vec<u8>, Want>
-    requires { AreReportable outcomes.now }
     ensures { IfOk result (λ text. IsReport image.now outcomes.now text.items) }
 {
     let list = outcomes.list.as_slice();

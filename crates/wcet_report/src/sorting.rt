@@ -1,5 +1,4 @@
-ghost use Rattle.std.specs.Prelude.{◌≡◌, All, IfOk, length};
-ghost use Rattle.wcet_report.specs.Context.{HasArguments};
+ghost use Rattle.std.specs.Prelude.{◌≡◌, IfOk, length};
 ghost use Rattle.wcet_report.specs.Order.{known_rank as known_rank_so};
 ghost use Rattle.wcet_report.specs.Ranking.{IsRankOf, AreRanks, OrdersBy};
 
@@ -34,7 +33,6 @@ fn known_rank(context: &Context) -> u8
 
 /// Where the outcome at an index stands.
 fn rank_of(alloc: Global, outcome: &Outcome, index: usize) -> Result<Rank, Want>
-    requires { HasArguments outcome.now.context }
     ensures { IfOk result (λ rank. IsRankOf outcome.now index rank) }
 {
     let mut text = Vec::new(alloc);
@@ -49,7 +47,6 @@ fn rank_of(alloc: Global, outcome: &Outcome, index: usize) -> Result<Rank, Want>
 
 /// Where each outcome stands.
 fn ranks_of(alloc: Global, list: &[Outcome]) -> Result<Vec<Rank>, Want>
-    requires { All (λ outcome. HasArguments outcome.context) list.now }
     ensures { IfOk result (λ ranks. AreRanks list.now (length list.now) ranks.items) }
 {
     let mut ranks = Vec::with_capacity(alloc, list.len())?;
@@ -62,7 +59,6 @@ fn ranks_of(alloc: Global, list: &[Outcome]) -> Result<Vec<Rank>, Want>
 
 /// The outcomes in the order of a report.
 pub(crate) fn in_order(alloc: Global, list: &[Outcome]) -> Result<Vec<Rank>, Want>
-    requires { All (λ outcome. HasArguments outcome.context) list.now }
     ensures { IfOk result (λ ranks. OrdersBy list.now ranks.items) }
 {
     let mut ranks = ranks_of(alloc, list)?;

@@ -1,4 +1,4 @@
-use Rattle.std.proofs.Common.{rules, subst}
+use Rattle.std.proofs.Common.{rules, subst, inl, inr, refl}
 use Rattle.bt_words.specs.Request.{IsRequest, asked_of, texts}
 use Rattle.bt_words.specs.declared.request.Request.{Request}
 use Rattle.bt_command.specs.Answer.{refused, wanting, answered}
@@ -21,3 +21,23 @@ returns-in-Err-Usage-clause-answers g c = let usage = c.in-Err-Usage.ensures.usa
 
 pub returns-in-Err-Want-clause-answers : goal.returns-in-Err-Want-clause-answers
 returns-in-Err-Want-clause-answers g c = wanting
+
+pub returns-in-Ok-Bound-clause-asks : goal.returns-in-Ok-Bound-clause-asks
+returns-in-Ok-Bound-clause-asks g c =
+    inr (_, (subst (λ (r : Request). IsRequest (texts c.args.words.now) (asked_of r)) c.in-Ok-Bound.field-0-is c.in-Ok-Bound.ensures.ok, c.bound.ensures.asks))
+
+pub returns-in-Ok-Decode-clause-asks : goal.returns-in-Ok-Decode-clause-asks
+returns-in-Ok-Decode-clause-asks g c =
+    inr (
+      _,
+      (
+        subst (λ (r : Request). IsRequest (texts c.args.words.now) (asked_of r)) c.in-Ok-Decode.field-0-is c.in-Ok-Decode.ensures.ok,
+        c.decode.ensures.asks,
+      ),
+    )
+
+pub returns-in-Err-Usage-clause-asks : goal.returns-in-Err-Usage-clause-asks
+returns-in-Err-Usage-clause-asks g c = inl refl
+
+pub returns-in-Err-Want-clause-asks : goal.returns-in-Err-Want-clause-asks
+returns-in-Err-Want-clause-asks g c = inl refl

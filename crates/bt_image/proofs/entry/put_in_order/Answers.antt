@@ -9,7 +9,8 @@ use Rattle.bt_image.proofs.entry.put_in_order.Goals as goal
 pub returns-clause-order : goal.returns-clause-order
 returns-clause-order c =
     let strings = c.args.strings.now in
-    order_far strings _ (c.sort_unstable_by.ensures.sorted (λ x y. is_lt (order strings x y)) (order_weak strings) (always_returns_same _ _ _ (λ a r q k. search rules)))
+    order_far strings _ (c.sort_unstable_by.ensures.sorted (λ x y. is_lt (order strings x y)) (order_weak strings)
+    (always_returns_same _ _ _ (λ a r q k. search rules)))
 
 pub returns-clause-keeps : goal.returns-clause-keeps
 returns-clause-keeps c = λ e has. Contains-permutation _ _ e c.sort_unstable_by.ensures.permutation has

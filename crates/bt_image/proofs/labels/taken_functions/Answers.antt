@@ -9,4 +9,5 @@ pub returns : goal.returns
 returns c =
     let file = c.args.file.now in
     exactly_taken file c.args.addresses.now c.deref.result.now c.in_ok-taken.taken.items _ c.requires.addresses
-    (subst (λ (xs : List ℕ). AreExactly (IsCodeIn (test_of Loaded) file) xs) (sym c.deref.ensures.value) c.in_ok-values.ensures) (omega arith) c.in_ok-taken.ensures
+    (subst (λ (xs : List ℕ). AreExactly (IsCodeIn (test_of Loaded) file) xs) (sym c.deref.ensures.value) c.in_ok-values.ensures)
+    (omega arith) c.in_ok-taken.ensures

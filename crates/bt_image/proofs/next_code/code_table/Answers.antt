@@ -18,5 +18,6 @@ loop-i-preserved c =
       | else-has_word w ↦
           (let q = ap (λ (v : Vec Section Global). v.items) w.table-is in
           subst (IsCodeTable loaded _) (sym q)
-          (code_skipped loaded c.loop-i.table.items c.loop-i.i s no_section c.loop-i-test.true refl (word_no s c.has_word.result c.has_word.ensures w.if-has_word.false) c.loop-i.invariant))
+          (code_skipped loaded c.loop-i.table.items c.loop-i.i s no_section c.loop-i-test.true refl
+          (word_no s c.has_word.result c.has_word.ensures w.if-has_word.false) c.loop-i.invariant))
     ]

@@ -9,7 +9,8 @@ returns-then-stands_before c =
 
 pub returns-then-place-table : goal.returns-then-place-table
 returns-then-place-table c =
-    next_there c.args.table.now c.begun-place.result c.args.a _ no_section refl c.requires.apart c.requires.words (omega arith) c.begun-place.ensures.above c.if-stands_before.ensures
+    next_there c.args.table.now c.begun-place.result c.args.a _ no_section refl c.requires.apart c.requires.words
+    (omega arith) c.begun-place.ensures.above c.if-stands_before.ensures
 
 pub returns : goal.returns
 returns c = next_nowhere c.args.table.now c.begun-place.result c.args.a _ refl (omega arith) c.if-stands_before.ensures

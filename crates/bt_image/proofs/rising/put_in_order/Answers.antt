@@ -15,4 +15,5 @@ returns-clause-keeps c = λ k has.
 
 pub returns-clause-adds_none : goal.returns-clause-adds_none
 returns-clause-adds_none c = λ k has.
-    Contains-permutation _ _ k (IsPermutation-sym _ _ c.sort_unstable.ensures.permutation) (Contains-from_dedup _ _ k (rw (dedup_is _ _ _ c.dedup.ensures.filtered) at has))
+    Contains-permutation _ _ k (IsPermutation-sym _ _ c.sort_unstable.ensures.permutation)
+    (Contains-from_dedup _ _ k (rw (dedup_is _ _ _ c.dedup.ensures.filtered) at has))

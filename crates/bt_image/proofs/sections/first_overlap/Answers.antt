@@ -10,4 +10,5 @@ unfolding overlap_refusal
 returns-in-Some c =
     let file = c.args.file.now in
     let lt : c.loop-a.a < section_count file = omega arith in
-    sym (first_of-here (λ a. first_of (overlap file a) (section_count file)) c.loop-a.a (section_count file) c.in-Some.refusal lt c.loop-a.invariant (sym c.in-Some.ensures))
+    sym (first_of-here (λ a. first_of (overlap file a) (section_count file)) c.loop-a.a
+    (section_count file) c.in-Some.refusal lt c.loop-a.invariant (sym c.in-Some.ensures))

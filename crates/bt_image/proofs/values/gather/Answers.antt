@@ -19,17 +19,20 @@ loop-i-preserved c =
       | then-admits+in_ok-note_section w ↦
           (let marks = ap (λ (v : Vec Bool Global). v.items) w.seen-is in
           let values = ap (λ (v : Vec ℕ Global). v.items) w.found-is in
-          let more = more_gathered c.args.access file loaded i s c.loop-i.seen.items w.note_section.new.seen.items c.loop-i.found.items w.note_section.new.found.items
+          let more = more_gathered c.args.access file loaded i s c.loop-i.seen.items w.note_section.new.seen.items
+          c.loop-i.found.items w.note_section.new.found.items
           c.requires c.loop-i-test.true at (sym c.admits.ensures ∙ w.if-admits.true) c.loop-i.invariant w.in_ok-note_section.ensures in
           subst (λ (ms : List Bool). AreGathered test file loaded (i + 1) ms c.if-admits.found.items) (sym marks)
           (subst (λ (xs : List ℕ). AreGathered test file loaded (i + 1) w.note_section.new.seen.items xs) (sym values) more))
       | else-admits w ↦
           (let marks = ap (λ (v : Vec Bool Global). v.items) w.seen-is in
           let values = ap (λ (v : Vec ℕ Global). v.items) w.found-is in
-          let more = skip_gathered test file loaded i s c.loop-i.seen.items c.loop-i.found.items c.loop-i-test.true at (sym c.admits.ensures ∙ w.if-admits.false) c.loop-i.invariant in
+          let more = skip_gathered test file loaded i s c.loop-i.seen.items c.loop-i.found.items c.loop-i-test.true at
+          (sym c.admits.ensures ∙ w.if-admits.false) c.loop-i.invariant in
           subst (λ (ms : List Bool). AreGathered test file loaded (i + 1) ms c.if-admits.found.items) (sym marks)
           (subst (λ (xs : List ℕ). AreGathered test file loaded (i + 1) c.loop-i.seen.items xs) (sym values) more))
     ]
 
 pub returns : goal.returns
-returns c = all_gathered c.args.access c.args.file.now c.args.loaded.now c.loop-i.i c.loop-i.seen.items c.loop-i.found.items c.requires (omega arith) c.loop-i.invariant
+returns c = all_gathered c.args.access c.args.file.now c.args.loaded.now c.loop-i.i c.loop-i.seen.items c.loop-i.found.items
+    c.requires (omega arith) c.loop-i.invariant

@@ -8,5 +8,5 @@ loop-rank-preserved c =
     c.args.text.now.items c.loop-rank.text.items c.put_outcome.new.text.items
     c.loop-rank-test.true c.rank-item.is
     (subst (λ rank. rank.index < length c.args.list.now) (sym c.rank-item.is)
-    (c.requires.below c.loop-rank.rank-index c.rank-item.result c.loop-rank-test.true))
+    (c.requires c.loop-rank.rank-index c.rank-item.result c.loop-rank-test.true))
     c.index-list-rank.is c.loop-rank.invariant c.in_ok-put_outcome.ensures

@@ -1,0 +1,8 @@
+use Rattle.std.proofs.Common.{◌∙◌}
+use Rattle.graph_laws.proofs.Rows.{found_is_there}
+use Rattle.graph_text.proofs.lines.does_return.Goals as goal
+
+pub returns : goal.returns
+returns c =
+    c.is_ok.ensures.value
+    ∙ found_is_there c.args.returning.now c.args.sub c.binary_search.result c.requires c.binary_search.ensures.position

@@ -1,0 +1,18 @@
+use Rattle.std.proofs.Common.{◌≡◌, ℕ, true, false, rules}
+use Rattle.std.proofs.lemmas.List.Sorted.{IsPartitionPoint-from_clause, IsPartitionedBy-ltb}
+use Rattle.std.specs.Prelude.{nat_lt}
+use Rattle.graph_view.proofs.Ranges.{below_before, below_behind}
+use Rattle.graph_view.proofs.owned.below.Goals as goal
+use Rattle.graph_view.specs.contracts.owned.below.{T-type}
+
+pub returns-clause-before : goal.returns-clause-before
+returns-clause-before g c =
+    below_before g.T.OfSub.owner c.args.list.now c.args.sub c.partition_point.result
+    (IsPartitionPoint-from_clause (λ (x : T-type g.row.T). nat_lt (g.T.OfSub.owner x) c.args.sub) c.args.list.now c.partition_point.result
+    c.partition_point.ensures.partitioned (IsPartitionedBy-ltb g.T.OfSub.owner c.args.list.now c.args.sub c.requires) (λ a r q k. search rules))
+
+pub returns-clause-behind : goal.returns-clause-behind
+returns-clause-behind g c =
+    below_behind g.T.OfSub.owner c.args.list.now c.args.sub c.partition_point.result
+    (IsPartitionPoint-from_clause (λ (x : T-type g.row.T). nat_lt (g.T.OfSub.owner x) c.args.sub) c.args.list.now c.partition_point.result
+    c.partition_point.ensures.partitioned (IsPartitionedBy-ltb g.T.OfSub.owner c.args.list.now c.args.sub c.requires) (λ a r q k. search rules))

@@ -1,0 +1,4 @@
+pub mod Handing
+pub mod Fits
+pub mod Cells
+pub mod Over

@@ -1,0 +1,5 @@
+use Rattle.wcet_report.proofs.Within.{report_has_loops}
+use Rattle.wcet_report.proofs.laws.report_has_loops.Goals as goal
+
+pub returns : goal.returns
+returns c = report_has_loops
