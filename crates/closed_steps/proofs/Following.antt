@@ -1,17 +1,17 @@
 -- Runs follow the facts of a closed state.
-use Rattle.std.proofs.Common.{◌≡◌, ℕ, zero, suc, ◌^◌, ◌<◌, false, List, [], ◌∷◌, length, Option, Some, None, Contains, refl, sym, ap, subst, ◌∙◌, arith}
+use Rattle.std.proofs.Common.{◌≡◌, ℕ, zero, suc, ◌^◌, ◌<◌, Bool, true, false, List, [], ◌∷◌, length, Option, Some, None, Contains, refl, sym, ap, subst, ◌∙◌, arith}
 use Rattle.std.specs.Prelude.{slice_index_or, is_some}
+use Rattle.std.proofs.lemmas.Bool.{eqb-true}
 use Rattle.std.specs.List.{cons_option, filter_map}
 use Rattle.std.specs.Option.{option_and_then}
 use Rattle.abs_state.specs.State.{entry_state}
 use Rattle.abs_state.specs.declared.key.Key.TheVariants as key
 use Rattle.abs_state.specs.declared.key.Next.TheVariants.{At}
 use Rattle.abs_state.specs.declared.key.Place.{Place}
-use Rattle.assert_bind.proofs.AboutLemmas.{finds_itself}
-use Rattle.assert_bind.proofs.StubLemmas.{stubs_those}
-use Rattle.assert_bind.specs.Binding.{about, root_in, roots, stub_in, time_in}
+use Rattle.assert_bind.proofs.AboutLemmas.{finds_itself, found}
+use Rattle.assert_bind.specs.Binding.{about, root_in, roots, time_in}
 use Rattle.assert_bind.specs.Index.{IsSound}
-use Rattle.assert_bind.specs.Subject.{subject_of}
+use Rattle.assert_bind.specs.Subject.{is_same, subject_of}
 use Rattle.assert_bind.specs.declared.body.BoundAssertion.{BoundAssertion}
 use Rattle.assert_bind.specs.declared.body.BoundBody.{BoundBody}
 use Rattle.assert_bind.specs.declared.body.BoundBody.TheVariants as body
@@ -22,7 +22,7 @@ use Rattle.sparc_machine.specs.declared.machine.Machine.{Machine}
 use Rattle.sparc_runs.proofs.Bounds.{operands_words}
 use Rattle.sparc_runs.proofs.Levels.{depths}
 use Rattle.sparc_runs.proofs.MeetLaws.{sights_meet}
-use Rattle.sparc_runs.specs.Meets.{Heads, IsMet, Meets}
+use Rattle.sparc_runs.specs.Meets.{Heads, IsMet, KeepsStubs, Meets}
 use Rattle.sparc_runs.specs.Window.{depth_from}
 use Rattle.stack_laws.proofs.Runs.{runs_followed}
 use Rattle.stack_laws.specs.Followed.{KeepsAllStubs}
@@ -90,24 +90,30 @@ root_no_stub list root sound has =
     let is : about list (of.Entry root) ≡ Some f.item = subst (λ (s : Subject). about list s ≡ Some f.item) (root_subject f.item.body root f.gives) at in
     ap (λ (o : Option BoundAssertion). is_some (option_and_then (λ assertion. time_in assertion.body) o)) is ∙ ap is_some (root_time f.item.body root f.gives)
 
--- a stub is asserted with a time
-stub_is : (says : BoundBody) (entry : ℕ) → stub_in says ≡ Some entry → (time : ℕ) × (says ≡ body.Stub entry time)
-stub_is (body.Root a) entry is = absurd (cc)
-stub_is (body.Never a) entry is = absurd (cc)
-stub_is (body.At a reg lo hi) entry is = absurd (cc)
-stub_is (body.Jump a to) entry is = absurd (cc)
-stub_is (body.CallTo a to) entry is = absurd (cc)
-stub_is (body.Loop a count) entry is = absurd (cc)
-stub_is (body.Stub a time) entry is = let same : a ≡ entry = cc in (time, ap (λ (e : ℕ). body.Stub e time) same)
+-- what speaks of an entry and has a time is a stub with both
+timed : (says : BoundBody) (entry time : ℕ) → is_same (subject_of says) (of.Entry entry) ≡ true → time_in says ≡ Some time → says ≡ body.Stub entry time
+timed (body.Root a) entry time same is = absurd (cc)
+timed (body.Never a) entry time same is = absurd (cc)
+timed (body.At a reg lo hi) entry time same is = absurd (cc)
+timed (body.Jump a to) entry time same is = absurd (cc)
+timed (body.CallTo a to) entry time same is = absurd (cc)
+timed (body.Loop a count) entry time same is = absurd (cc)
+timed (body.Stub a t) entry time same is =
+    let at : a ≡ entry = eqb-true a entry same in
+    let within : t ≡ time = cc in
+    λ i. body.Stub (at i) (within i)
 
-keeps_stubs : (image : List ℕ) (heads : Heads) (first : Machine) (rest : List Machine) (list : List BoundAssertion) → IsSound list → Meets image heads first rest list
+keeps_stubs : (image : List ℕ) (heads : Heads) (first : Machine) (rest : List Machine) (list : List BoundAssertion) → Meets image heads first rest list
     → KeepsAllStubs image list first rest
-keeps_stubs image heads first rest list sound meets entry is =
-    let f = is_from (λ assertion. stub_in assertion.body) list entry (((stubs_those list sound).each entry).1 is) in
-    let says = stub_is f.item.body entry f.gives in
-    let met : IsMet image heads first rest f.item.body =
-    subst (λ (x : BoundAssertion). IsMet image heads first rest x.body) f.there (meets f.place f.item f.within) in
-    (says.0, subst (IsMet image heads first rest) says.1 met)
+keeps_stubs image heads first rest list meets entry time is = by (about list (of.Entry entry)) refl is where
+  by : (o : Option BoundAssertion) → about list (of.Entry entry) ≡ o → option_and_then (λ assertion. time_in assertion.body) o ≡ Some time
+      → KeepsStubs image first rest entry time
+  by None at none = absurd (cc)
+  by (Some item) at has =
+      let f = found list (of.Entry entry) item at in
+      let met : IsMet image heads first rest item.body =
+      subst (λ (x : BoundAssertion). IsMet image heads first rest x.body) f.there (meets f.place item f.within) in
+      subst (IsMet image heads first rest) (timed item.body entry time f.same has) met
 
 pub runs_follow_closed_states : RunsFollowClosedStates
 runs_follow_closed_states t image costs list eight x heads root first rest bound thresholds closed run =
@@ -119,7 +125,7 @@ runs_follow_closed_states t image costs list eight x heads root first rest bound
       looked_into = root_no_stub list root bound.sound run.rooted;
       stands = stands;
       meets = sights_meet image heads first rest list run.meets;
-      stubs = keeps_stubs image heads first rest list bound.sound run.meets;
+      stubs = keeps_stubs image heads first rest list run.meets;
       facts = closed_states_cover_steps t image costs list eight x bound thresholds closed;
     })
   where
