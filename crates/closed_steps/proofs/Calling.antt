@@ -110,7 +110,7 @@ module _ (t image costs : List ℕ) (list : List BoundAssertion) (eight : Bool) 
   flat : depth_from top.start.cwp m.cwp ≡ d.step.depth
   flat = ap (depth_from top.start.cwp) (sym link.0) ∙ at
 
-  waits : place_of (Calls target address) top m ≡ waiting_place top (pushed target address next)
+  pub waits : place_of (Calls target address) top m ≡ waiting_place top (pushed target address next)
   waits =
       same_place (place_of (Calls target address) top m) (waiting_place top (pushed target address next)) refl takes.running.due.pc refl
       (ap (depth_from top.start.cwp) (sym link.0))

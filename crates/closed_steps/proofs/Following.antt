@@ -82,7 +82,7 @@ root_time (body.Loop a count) entry is = absurd (cc)
 root_time (body.Stub a time) entry is = absurd (cc)
 
 -- the entry of a root is no stub's
-root_no_stub : (list : List BoundAssertion) (root : ℕ) → IsSound list → Contains (roots list) root → is_stub list root ≡ false
+pub root_no_stub : (list : List BoundAssertion) (root : ℕ) → IsSound list → Contains (roots list) root → is_stub list root ≡ false
 root_no_stub list root sound has =
     let f = is_from (λ assertion. root_in assertion.body) list root has in
     let at : about list (subject_of f.item.body) ≡ Some f.item =
@@ -103,7 +103,7 @@ timed (body.Stub a t) entry time same is =
     let within : t ≡ time = cc in
     λ i. body.Stub (at i) (within i)
 
-keeps_stubs : (image : List ℕ) (heads : Heads) (first : Machine) (rest : List Machine) (list : List BoundAssertion) → Meets image heads first rest list
+pub keeps_stubs : (image : List ℕ) (heads : Heads) (first : Machine) (rest : List Machine) (list : List BoundAssertion) → Meets image heads first rest list
     → KeepsAllStubs image list first rest
 keeps_stubs image heads first rest list meets entry time is = by (about list (of.Entry entry)) refl is where
   by : (o : Option BoundAssertion) → about list (of.Entry entry) ≡ o → option_and_then (λ assertion. time_in assertion.body) o ≡ Some time

@@ -17,7 +17,7 @@ use Rattle.call_effects.specs.declared.summary.Summary.{Summary as Effects}
 use Rattle.flow_system.specs.State.{IsClosed}
 use Rattle.sparc_machine.specs.Frame.{Frame}
 use Rattle.sparc_runs.specs.Sound.{AreBytes}
-use Rattle.stack_laws.specs.Standing.{StackFacts, summary_in}
+use Rattle.stack_laws.specs.Standing.{StackFacts, summary_in, waiting_place}
 use Rattle.stack_laws.specs.StepFacts.{StepFacts}
 use Rattle.transfer_acts.specs.Program.{program_of}
 use Rattle.transfer_acts.specs.Reading.{is_stub}
@@ -95,9 +95,9 @@ pub record AreGraphs (image : List ℕ) (list : List BoundAssertion) (eight : Bo
   pub are : (stack : List Frame) → IsThresholds (thresholds stack)
   pub answers : (stack : List Frame)
       → Answers (thresholds stack) (family (thresholds stack) image list) (program_of image list eight (widest image list)) (y stack) x
-  pub enters : (F G : Frame) (rest : List Frame) (p : Place) (step : Step) (before after : State)
-      → IsTaken (family (thresholds (F ∷ rest)) image list) (program_of image list eight (widest image list)) (y (F ∷ rest)) p step Onward before after
-      → p.next ≡ Into G.sub → is_stub list G.sub ≡ false → HasState (y (G ∷ F ∷ rest)) (entry_of G.sub) (entered_with (arguments step.depth after))
+  pub enters : (F G : Frame) (rest : List Frame) (step : Step) (before after : State)
+      → IsTaken (family (thresholds (F ∷ rest)) image list) (program_of image list eight (widest image list)) (y (F ∷ rest)) (waiting_place F G) step Onward
+      before after → is_stub list G.sub ≡ false → HasState (y (G ∷ F ∷ rest)) (entry_of G.sub) (entered_with (arguments step.depth after))
   pub stubs : (target : ℕ) → is_stub list target ≡ true → is_at_most effects_of_stub (summary_in x target) ≡ true
 
 -- then each step of a run shows what the law of the stack asks of the facts
