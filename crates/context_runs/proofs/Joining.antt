@@ -109,7 +109,7 @@ module _
       pub frame : IsFrame F image first rest a f below
       pub lastly : last_of a ≡ i
       pub frames : AreFrames F image first rest callers below
-      pub belows : AreBelow F image costs first rest f callers below
+      pub belows : AreBelow F image costs first rest i f callers below
 
     on : (i : ℕ) (a : Activation) (callers : List Activation) → i ≤ last → these_at i ≡ a ∷ callers → IsOn i a callers
     on i a callers within are = by (frames_at image first rest i) refl
@@ -282,7 +282,7 @@ module _
               due
               (step.plain clear.plain) in
               record {
-                edge = subst (λ (facts : Facts). is_some (facts (key.Edge (waiting_place g f) (place_of Stays g (at (suc i))))) ≡ true) known way.1;
+                edge = subst (λ (facts : Facts). is_some (facts (key.Edge (waiting_place g f) (place_of Stays g (at (suc i))))) ≡ true) known (way.1).0;
                 still = way.2;
                 called = record {
                   there = subst (λ (facts : Facts). is_some (facts (key.Call (waiting_place g f) f.sub)) ≡ true) known ((clear.waiting).0).called;
@@ -304,7 +304,7 @@ module _
             subst (λ (l : List Frame). AreWaiting (facts_of F x) x f l lowest.start) rest_is
             (subst (λ (h : Frame). AreWaiting (facts_of F x) x h (under ∷ others) lowest.start) f_is waiting) in
             record {
-              edge = subst (λ (facts : Facts). is_some (facts (key.Edge (waiting_place g f) (place_of Stays g (at (suc i))))) ≡ true) known way.1;
+              edge = subst (λ (facts : Facts). is_some (facts (key.Edge (waiting_place g f) (place_of Stays g (at (suc i))))) ≡ true) known (way.1).0;
               still = way.2;
               called = record {
                 there = subst (λ (facts : Facts). is_some (facts (key.Call (waiting_place g f) f.sub)) ≡ true) known (wait.0).called;
@@ -331,7 +331,7 @@ module _
       due = returns_by (due_at image first rest i) move
 
       by : (below : List Frame) → frames_at image first rest i ≡ o.f ∷ below → AreFrames F image first rest (caller ∷ callers) below
-          → AreBelow F image costs first rest o.f (caller ∷ callers) below
+          → AreBelow F image costs first rest i o.f (caller ∷ callers) below
           → IsAlong (F.family c) (run_of F image costs first rest) c (last_of caller) (suc i)
           × ((run_of F image costs first rest).owed (suc i)
           ≤ ((F.family c).own).edge ((run_of F image costs first rest).node c (last_of caller)) ((run_of F image costs first rest).node c (suc i)))
@@ -342,7 +342,7 @@ module _
           let p : Place = waiting_place g o.f in
           let q : Place = place_of Stays g (at (suc i)) in
           let after = frames_next i (o.f ∷ g ∷ below) Returns within are due in
-          let from_is = belows.0 c in
+          let from_is = (belows.0).node c in
           let to_is = node_is F image costs list x root first rest last (join.placed) (suc i) c g below Stays after back.still in
           let extra = (((join.placed).filled).extra) c p q back.edge in
           let most = owed_most costs (at (suc i)).loaded (code_instruction image (at (suc i)).pc) in

@@ -152,12 +152,15 @@ module _
     pushes i within Stays is frames are = tt
     pushes i within (Calls target address) is [] are = tt
     pushes i within (Calls target address) is (f ∷ below) are =
-        let most = join.last_within in
-        record {
-          node = λ c. node_is i c f below (Calls target address) are is ∙ ap (λ (p : Place). F.number c p) (waits_there i target address f (omega arith) is);
-          leads = λ c context.
-              ((join.filled).leads) c (waiting_place f (pushed target address (next i))) target (called_there i c target address f below within are is context);
-        }
+        let most = join.last_within in (
+          record {
+            node = λ c. node_is i c f below (Calls target address) are is ∙ ap (λ (p : Place). F.number c p) (waits_there i target address f (omega arith) is);
+            leads = λ c context.
+                ((join.filled).leads) c (waiting_place f (pushed target address (next i))) target (called_there i c target address f below within are is context);
+          },
+          is,
+          are,
+        )
     pushes i within Returns is frames are = tt
 
     abbrev these_at : ℕ → List Activation
