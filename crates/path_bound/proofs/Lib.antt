@@ -1,0 +1,16 @@
+pub mod Best
+pub mod Bounded
+pub mod Facts
+pub mod Final
+pub mod Fixed
+pub mod Followed
+pub mod Grounded
+pub mod Labelled
+pub mod Named
+pub mod Ordered
+pub mod Passed
+pub mod Placed
+pub mod Rankings
+pub mod Stepped
+pub mod Told
+pub mod Turns

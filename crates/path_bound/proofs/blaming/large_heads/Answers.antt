@@ -1,0 +1,1 @@
+use Rattle.path_bound.proofs.blaming.large_heads.Goals as goal

@@ -1,0 +1,1 @@
+use Rattle.path_bound.proofs.placing.places_of.Goals as goal

@@ -1,0 +1,1 @@
+use Rattle.path_bound.proofs.stepping.plain_rows.Goals as goal

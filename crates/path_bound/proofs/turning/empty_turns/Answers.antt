@@ -1,0 +1,1 @@
+use Rattle.path_bound.proofs.turning.empty_turns.Goals as goal

@@ -1,0 +1,1 @@
+use Rattle.path_bound.proofs.turning.take_turns.Goals as goal
