@@ -17,20 +17,22 @@ use Rattle.path_bound.specs.declared.long_walk.LongWalk.{LongWalk}
 use Rattle.path_bound.specs.declared.long_walk.Turn.{Turn}
 use Rattle.path_bound.specs.declared.stepping.Step.{Step}
 use Rattle.path_bound.specs.declared.weights.Costs.{Costs as Weights}
+use Rattle.path_bound.specs.Blamed.{first_of, AreLarge}
 use Rattle.path_bound.specs.Capped.{limit, cap}
 use Rattle.path_bound.specs.Choosing.{label_at, is_end, cost_of, next_of}
 use Rattle.path_bound.specs.Exact.{Task, row_of, move_of, labels_by, laps_of, own_of}
-use Rattle.path_bound.specs.LongWalk.{rest_of, turn_walk, turns_in, IsTold, AreTold, IsLongest}
-use Rattle.path_bound.specs.Places.{place_of, loops_in, bound_in, costs_in, AreBounds}
+use Rattle.path_bound.specs.LongWalk.{rest_of, turn_walk, turns_in, IsTold, AreTold, IsLongest, IsTooLarge}
+use Rattle.path_bound.specs.Places.{place_of, held, loops_in, bound_in, costs_in, AreBounds}
 use Rattle.path_bound.specs.Ranked.{rank_in, IsOrder, IsForwardOrder}
 use Rattle.path_bound.specs.Steps.{moves, steps_at}
 use Rattle.path_bound.specs.Turned.{task_of, size_of, IsGround, IsTurnOf, IsTurnAt, AreTurnedUpTo}
-use Rattle.path_bound.specs.Turning.{ArePassed, IsFollowed, toll}
+use Rattle.path_bound.specs.Turning.{ArePassed, IsFollowed, IsWeighed, toll}
 use Rattle.path_bound.proofs.Best.{IsLabel}
 use Rattle.path_bound.proofs.Final.{AreSame, further, toll_capped, steps_toll, full_next, full_of, full_fixed, told_full, lap_capped}
 use Rattle.path_bound.proofs.Labelled.{starting, greatest, own_greatest}
 use Rattle.path_bound.proofs.Ordered.{rank_most, place_in}
-use Rattle.path_bound.proofs.Placed.{IsLoopAt, place_is, head_place}
+use Rattle.path_bound.proofs.Named.{IsLoopOf, named}
+use Rattle.path_bound.proofs.Placed.{IsLoopAt, place_is, place_reads, head_place}
 use Rattle.path_bound.proofs.Told.{IsCapped, IsTrip, told_capped, trip_of}
 use Rattle.path_bound.proofs.Turns.{laps_told, no_laps, capped_cost, capped_some, small}
 
@@ -233,3 +235,63 @@ module _ (graph : List (List ℕ)) (entry : ℕ) (loops : List Loop) (bounds : L
               ∙ ap (λ (x : ℕ). further (loops_in loops) (bound_in loops bounds) (full loops turns graph bounds costs order) entry + (x + (costs_in costs).node (end_of entry followed.rest)))
               (sym (steps_toll (loops_in loops) (bound_in loops bounds) (costs_in costs) (turns_in loops turns (full loops turns graph bounds costs order)) entry followed.rest)));
         }
+
+  module _ (node : List ℕ) (node_is : (n : ℕ) → get_or node n 0 ≡ (costs_in costs).node n) where
+    -- the marks of loops are those of their own greatest costs
+    pub weighed : (h : ℕ) → (loops_in loops).has h ≡ true → (one : Loop) → one.head ≡ h → ((n : ℕ) → (loops_in loops).body h n ≡ has one.body.items n) → (large : Bool)
+        → IsWeighed (is_edge graph) (loops_in loops) one node steps laps large
+        → (large ≡ true) ↔ (limit ≤ laps_of (task_of graph loops bounds costs) (size_of order) h + own_of (task_of graph loops bounds costs) (size_of order) h h)
+    weighed h a one_loop named body large w =
+        let s : IsForwardOrder (is_edge graph) (loops_in loops) ((loops_in loops).body h) w.nodes =
+        ground.forward h w.nodes a (record { same = λ n. w.sorted.same n ∙ sym (body n); once = w.sorted.once; before = λ k m l b. w.sorted.before k m l (sym (body m) ∙ b) }) in
+        let like : IsCapped (label_at w.labels h) (labels_by (task_of graph loops bounds costs) ((loops_in loops).body h) None (laps_of (task_of graph loops bounds costs) (size_of order)) (size_of order) h) =
+        told_capped (task_of graph loops bounds costs) ((loops_in loops).body h) w.nodes s None node steps laps w.labels w.passed node_is rows (rank_in order) (size_of order) the_small ground.falls
+        (λ n i. place_in w.nodes n (s.sorted.same n ∙ i)) (laps_of (task_of graph loops bounds costs) (size_of order)) (λ m i e. lap_told m) h (ground.head h a) in
+        let c : cost_of (label_at w.labels h) ≡ cap (own_of (task_of graph loops bounds costs) (size_of order) h h) =
+        capped_cost (label_at w.labels h) (labels_by (task_of graph loops bounds costs) ((loops_in loops).body h) None (laps_of (task_of graph loops bounds costs) (size_of order)) (size_of order) h) like in
+        let says : (large ≡ true) ↔ (limit ≤ cap (get_or laps h 0 + cost_of (label_at w.labels h))) =
+        subst (λ (k : ℕ). (large ≡ true) ↔ (limit ≤ cap (get_or laps k 0 + cost_of (label_at w.labels k)))) named w.says in (
+          (λ t. over (get_or laps h 0) (cost_of (label_at w.labels h)) (laps_of (task_of graph loops bounds costs) (size_of order) h) (own_of (task_of graph loops bounds costs) (size_of order) h h) limit (lap_told h) c (says.0 t)),
+          (λ l. says.1 (back (get_or laps h 0) (cost_of (label_at w.labels h)) (laps_of (task_of graph loops bounds costs) (size_of order) h) (own_of (task_of graph loops bounds costs) (size_of order) h h) limit (lap_told h) c l)),
+        )
+      where
+        over : (a b c d l : ℕ) → a ≡ min c l → b ≡ min d l → l ≤ min (a + b) l → l ≤ c + d
+        over a b c d l e f h = omega (arith, e, f, h)
+        back : (a b c d l : ℕ) → a ≡ min c l → b ≡ min d l → l ≤ c + d → l ≤ min (a + b) l
+        back a b c d l e f h = omega (arith, e, f, h)
+
+    module _ (large : ℕ → Bool) (marks : AreLarge (is_edge graph) loops (loops_in loops) node steps laps large) where
+      the_loop : (h : ℕ) → (loops_in loops).has h ≡ true → IsLoopOf (loops_in loops) loops h
+      the_loop h a =
+          let r : IsLoopAt loops (place_of loops h) h = place_reads loops h (ltb-true (place_of loops h) (length loops) (sym (head_place loops h) ∙ a)) in
+          record { place = place_of loops h; one = r.one; at = r.at; head = r.head }
+
+      is_there : (k : ℕ) (one_loop : Loop) → slice_get loops k ≡ Some one_loop → (loops_in loops).has one_loop.head ≡ true
+      is_there k one_loop e =
+          let p : place_of loops one_loop.head ≡ k = place_is loops rise k one_loop e in
+          let w : k < length loops = slice_get_within loops k one_loop e in
+          head_place loops one_loop.head ∙ lt-ltb (place_of loops one_loop.head) (length loops) (omega (arith, p, w))
+
+      the_body : (k n : ℕ) (one_loop : Loop) → slice_get loops k ≡ Some one_loop → (loops_in loops).body one_loop.head n ≡ has one_loop.body.items n
+      the_body k n one_loop e = ap (λ (o : Option Loop). held o n) (ap (slice_get loops) (place_is loops rise k one_loop e) ∙ e)
+
+      says : (h : ℕ) → (loops_in loops).has h ≡ true
+          → (large h ≡ true) ↔ (limit ≤ laps_of (task_of graph loops bounds costs) (size_of order) h + own_of (task_of graph loops bounds costs) (size_of order) h h)
+      says h a =
+          let r : IsLoopOf (loops_in loops) loops h = the_loop h a in
+          weighed h a r.one r.head (λ n. ap (λ (x : ℕ). (loops_in loops).body x n) (sym r.head) ∙ the_body r.place n r.one r.at) (large h)
+          (subst (λ (x : ℕ). IsWeighed (is_edge graph) (loops_in loops) r.one node steps laps (large x)) r.head (marks.each r.place r.one r.at))
+
+      -- the greatest cost is too large, and a node is named
+      pub is_too_large : (labels : List (Option Label)) → ArePassed order None node steps laps labels → (cost : ℕ)
+          → cost ≡ cap (costs.start + cap (get_or laps entry 0 + cost_of (label_at labels entry))) → limit ≤ cost → IsTooLarge (is_edge graph) entry loops bounds costs (first_of large loops entry)
+      is_too_large labels passed cost told l = record {
+        greatest = laps_of (task_of graph loops bounds costs) (size_of order) entry
+            + cost_of (labels_by (task_of graph loops bounds costs) whole None (laps_of (task_of graph loops bounds costs) (size_of order)) (size_of order) entry);
+        is = is_greatest node node_is labels passed;
+        large = is_large node node_is labels passed cost told l;
+        own = λ h. laps_of (task_of graph loops bounds costs) (size_of order) h + own_of (task_of graph loops bounds costs) (size_of order) h h;
+        owns = own_greatest (task_of graph loops bounds costs) whole (rank_in order) (size_of order) the_small ground.falls ground.inner within entry are one;
+        named = named (loops_in loops) loops rise the_loop is_there the_body large
+            (λ h. laps_of (task_of graph loops bounds costs) (size_of order) h + own_of (task_of graph loops bounds costs) (size_of order) h h) says marks.others entry;
+      }

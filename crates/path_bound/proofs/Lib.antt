@@ -1,4 +1,6 @@
+pub mod Begun
 pub mod Best
+pub mod Bodies
 pub mod Bounded
 pub mod Facts
 pub mod Final
@@ -12,5 +14,6 @@ pub mod Passed
 pub mod Placed
 pub mod Rankings
 pub mod Stepped
+pub mod Taken
 pub mod Told
 pub mod Turns

@@ -86,18 +86,18 @@ module _ (all : Loops) (loops : List Loop) (rise : HeadsRise loops) (listed : (h
 
   of_blamed : (k : ℕ) (one : Loop) → slice_get loops k ≡ Some one → IsBlamed all own one.head → is_innermost_of large one ≡ true
   of_blamed k one e b =
-      two_true (large one.head) (not (list_any (λ n. not (n == one.head) && large n) one.body.items)) ((says one.head b.head).1 b.large)
-      (ap not (elim (tells (list_any (λ n. not (n == one.head) && large n) one.body.items)) [
+      let none : list_any (λ n. not (n == one.head) && large n) one.body.items ≡ false = elim (tells (list_any (λ n. not (n == one.head) && large n) one.body.items)) [
         | inl t ↦ absurd (never t)
         | inr t ↦ t
-      ]))
+      ] in
+      two_true (large one.head) (not (list_any (λ n. not (n == one.head) && large n) one.body.items)) ((says one.head b.head).1 b.large) (ap not none)
     where
       never : list_any (λ n. not (n == one.head) && large n) one.body.items ≡ true → ⊥
       never t =
           let a = Any-from_list_any (λ (n : ℕ). not (n == one.head) && large n) one.body.items t in
           let p : (not (a.1 == one.head) ≡ true) × (large a.1 ≡ true) = both (not (a.1 == one.head)) (large a.1) a.4 in
           let f : (a.1 == one.head) ≡ false = not_false (a.1 == one.head) p.0 in
-          let inside : has one.body.items a.1 ≡ true = has_where one.body.items a.0 a.1 a.2 (sym (get_or_zero one.body.items a.0 a.1 a.2) ∙ sym a.3) in
+          let inside : has one.body.items a.1 ≡ true = has_where one.body.items a.0 a.1 a.2 (sym (get_or_zero one.body.items a.0 a.1 a.2) ∙ a.3) in
           elim (tells (all.has a.1)) [
             | inl h ↦
                 let w : own a.1 < limit = b.inner a.1 h (bodies k a.1 one e ∙ inside) (λ q. let g : (a.1 == one.head) ≡ true = eq-eqb a.1 one.head q in cc) in

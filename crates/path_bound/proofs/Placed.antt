@@ -11,7 +11,7 @@ use Rattle.loop_nest.specs.declared.natural_loop.Loop.{Loop}
 use Rattle.loop_nest.specs.LoopNest.{is_head, HeadsRise}
 use Rattle.path_bound.specs.Places.{place_of, held, loops_in, place_below, AreLoopsBelow}
 
-some_one : {A : Type 0} {x y : A} → Some x ≡ Some y → x ≡ y
+pub some_one : {A : Type 0} {x y : A} → Some x ≡ Some y → x ≡ y
 some_one e = cc
 
 equal : (a b : ℕ) → (a == b) ≡ true → a ≡ b

@@ -7,5 +7,6 @@ pub mod Places
 pub mod Ranked
 pub mod Ranking
 pub mod Steps
+pub mod Surveyed
 pub mod Turned
 pub mod Turning

@@ -12,6 +12,7 @@ mod placing;
 mod ranking;
 mod refusal;
 mod stepping;
+mod surveying;
 mod turning;
 mod weights;
 

@@ -75,6 +75,60 @@ fn take_turn(
     Ok(())
 }
 
+/// Finds the turn of the loop whose head a node is, if it is one.
+fn take_head(
+    alloc: Global,
+    graph: &Graph,
+    loops: &[Loop],
+    places: &[Option<usize>],
+    bounds: &[u64],
+    costs: &Costs,
+    steps: &[Vec<Step>],
+    order: &[u32],
+    at: u32,
+    ranking: &mut Ranking,
+    laps: &mut [u64],
+    labels: &mut [Option<Label>],
+    turns: &mut [Turn],
+) -> Result<(), Want>
+    requires loops { AreLoopsBelow (length places.now) loops.now }
+    requires places { ArePlaces loops.now places.now }
+    requires count { length places.now ≡ length graph.now }
+    requires ends { HaveEnds (is_edge graph.now) (loops_in loops.now) }
+    requires heads { HoldHeads loops.now }
+    requires bounds { AreBounds loops.now bounds.now }
+    requires sizes { AreSized (length graph.now) costs.now.node.items steps.now laps.old labels.old }
+    requires steps { AreStepsOf graph.now (λ n m. cap ((costs_in costs.now).node n + (costs_in costs.now).edge n m)) steps.now }
+    requires at { at < length graph.now }
+    requires ground { IsGround (task_of graph.now loops.now bounds.now costs.now) order.now }
+    requires turns { length turns.old ≡ length loops.now }
+    requires ready { IsReady (length graph.now) ranking.old }
+    requires none { NoLabels labels.old }
+    ensures ready { OnOk result (IsReady (length graph.now) ranking.new) }
+    ensures none { OnOk result (NoLabels labels.new) }
+    ensures turns { OnOk result ((k : ℕ) → k < length order.now → slice_index order.now k ≡ at
+        → AreTurnedUpTo (task_of graph.now loops.now bounds.now costs.now) loops.now order.now k laps.old turns.old
+        → AreTurnedUpTo (task_of graph.now loops.now bounds.now costs.now) loops.now order.now (k + 1) laps.new turns.new) }
+{
+    match places[at as usize] {
+        None => Ok(()),
+        Some(place) => take_turn(
+            alloc,
+            graph,
+            loops,
+            places,
+            bounds,
+            &costs.node,
+            steps,
+            place,
+            ranking,
+            laps,
+            labels,
+            turns,
+        ),
+    }
+}
+
 /// Finds the turn of each loop, from the inside outward.
 pub(crate) fn take_turns(
     alloc: Global,
@@ -101,6 +155,7 @@ pub(crate) fn take_turns(
     requires order { (n : ℕ) → has order.now n ≡ true → n < length graph.now }
     requires ground { IsGround (task_of graph.now loops.now bounds.now costs.now) order.now }
     requires turns { AreTurnedUpTo (task_of graph.now loops.now bounds.now costs.now) loops.now order.now 0 laps.old turns.old }
+    requires count_turns { length turns.old ≡ length loops.now }
     requires ready { IsReady (length graph.now) ranking.old }
     requires none { NoLabels labels.old }
     ensures ready { OnOk result (IsReady (length graph.now) ranking.new) }
@@ -108,22 +163,9 @@ pub(crate) fn take_turns(
     ensures turns { OnOk result (AreTurnedUpTo (task_of graph.now loops.now bounds.now costs.now) loops.now order.now (length order.now) laps.new turns.new) }
 {
     for at in order {
-        if let Some(place) = places[*at as usize] {
-            take_turn(
-                alloc,
-                graph,
-                loops,
-                places,
-                bounds,
-                &costs.node,
-                steps,
-                place,
-                ranking,
-                laps,
-                labels,
-                turns,
-            )?;
-        }
+        take_head(
+            alloc, graph, loops, places, bounds, costs, steps, order, *at, ranking, laps, labels, turns,
+        )?;
     }
     Ok(())
 }

@@ -13,4 +13,5 @@ use Rattle.path_bound.proofs.Grounded.{ground}
 use Rattle.path_bound.proofs.Bounded.{is_longest}
 use Rattle.path_bound.proofs.Followed.{next_there}
 use Rattle.path_bound.proofs.Named.{named}
+use Rattle.path_bound.proofs.Taken.{head_taken}
 use Rattle.path_bound.proofs.adding.capped.Goals as goal

@@ -1,1 +1,33 @@
+use Rattle.std.proofs.Common.{◌≡◌, ◌+◌, ◌<◌, ◌≤◌, ℕ, Some, None, List, length, get_or, refl, sym, ap, subst, ◌∙◌, arith}
+use Rattle.std.specs.List.{slice_get}
+use Rattle.std.proofs.lemmas.Option.{slice_get-get_or}
+use Rattle.bt_base.specs.Graph.{has, is_edge}
+use Rattle.loop_nest.specs.declared.natural_loop.Loop.{Loop}
+use Rattle.path_bound.specs.Capped.{limit, cap}
+use Rattle.path_bound.specs.Choosing.{label_at, cost_of}
+use Rattle.path_bound.specs.Places.{loops_in}
+use Rattle.path_bound.specs.Turning.{IsWeighed}
+use Rattle.path_bound.proofs.Bodies.{order_below, head_below, passed_order}
+use Rattle.path_bound.proofs.Placed.{some_one}
 use Rattle.path_bound.proofs.blaming.is_large.Goals as goal
+
+pub bounds-laps-one : goal.bounds-laps-one
+bounds-laps-one c =
+    let at : slice_get c.args.loops.now c.args.place ≡ Some c.index-loops-place.result =
+    slice_get-get_or c.args.loops.now c.args.place c.index-loops-place.result c.requires.place ∙ ap (λ (x : Loop). Some x) (sym c.index-loops-place.is) in
+    let w : c.index-loops-place.result.head < length c.args.places.now = head_below (is_edge c.args.graph.now) (loops_in c.args.loops.now) (length c.args.places.now) c.args.loops.now c.requires.loops c.args.place c.index-loops-place.result at c.deref.result.now c.deref.ensures.value c.in_ok-order.order.items (c.in_ok-order.ensures {u = tt}).order in omega (arith, w, c.requires.count, c.requires.sizes.lapped)
+
+pub cost_at-requires : goal.cost_at-requires
+cost_at-requires c =
+    let at : slice_get c.args.loops.now c.args.place ≡ Some c.index-loops-place.result =
+    slice_get-get_or c.args.loops.now c.args.place c.index-loops-place.result c.requires.place ∙ ap (λ (x : Loop). Some x) (sym c.index-loops-place.is) in
+    let w : c.index-loops-place.result.head < length c.args.places.now = head_below (is_edge c.args.graph.now) (loops_in c.args.loops.now) (length c.args.places.now) c.args.loops.now c.requires.loops c.args.place c.index-loops-place.result at c.deref.result.now c.deref.ensures.value c.in_ok-order.order.items (c.in_ok-order.ensures {u = tt}).order in omega (arith, w, c.requires.count, c.requires.sizes.marked, c.pass.auto.labels)
+
+pub clear-requires : goal.clear-requires
+clear-requires c = λ n h.
+    let at : slice_get c.args.loops.now c.args.place ≡ Some c.index-loops-place.result =
+    slice_get-get_or c.args.loops.now c.args.place c.index-loops-place.result c.requires.place ∙ ap (λ (x : Loop). Some x) (sym c.index-loops-place.is) in
+    let w : n < length c.args.places.now = order_below (is_edge c.args.graph.now) (loops_in c.args.loops.now) (length c.args.places.now) c.args.loops.now c.requires.loops c.args.place c.index-loops-place.result at c.deref.result.now c.deref.ensures.value c.in_ok-order.order.items (c.in_ok-order.ensures {u = tt}).order c.deref-3.result.now c.deref-3.ensures.value n h in omega (arith, w, c.requires.count, c.requires.sizes.marked, c.pass.auto.labels)
+
+pub returns-clause-weighed : goal.returns-clause-weighed
+returns-clause-weighed c = ?

@@ -1,0 +1,1 @@
+use Rattle.path_bound.proofs.bounding.concluded.Goals as goal

@@ -1,0 +1,1 @@
+use Rattle.path_bound.proofs.surveying.surveyed.Goals as goal
