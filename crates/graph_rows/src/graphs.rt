@@ -1,11 +1,9 @@
-//! Graphs, and calls whose conditions are looked at first.
+//! Graphs and costs of small rows.
 
 use bt_base::{Graph, Want};
-use loop_nest::{LoopNest, NestRefusal, nest};
-use path_bound::{Costs, LongWalk, PathRefusal, longest};
+use path_bound::Costs;
 use std::alloc::Global;
 use std::process::Abort;
-use std::test::Fail;
 
 /// A graph of some edges.
 pub(crate) fn graph_of(
@@ -23,17 +21,14 @@ pub(crate) fn graph_of(
     Ok(graph)
 }
 
-/// Costs of the nodes alone.
-pub(crate) fn costs_of(alloc: Global, start: u64, node: &[u64], extra: &[(u32, u32, u64)]) -> Result<Costs, Want> {
+/// What walks cost at their start, at each node and along some edges.
+pub(crate) fn costs_of(
+    alloc: Global,
+    start: u64,
+    node: &[u64],
+    extra: &[(u32, u32, u64)],
+) -> Result<Costs, Want> {
     let node = Vec::from_slice(alloc, node)?;
     let extra = Vec::from_slice(alloc, extra)?;
     Ok(Costs { start, node, extra })
-}
-
-pub(crate) fn nest_of(rt: &impl Abort, alloc: Global, graph: &Graph, entry: u32) -> Result<LoopNest, NestRefusal> {
-    nest(alloc, graph, entry)
-}
-
-pub(crate) fn longest_of(rt: &impl Abort, alloc: Global, graph: &Graph, nest: &LoopNest, entry: u32, heads: &[u64], costs: &Costs) -> Result<LongWalk, PathRefusal> {
-    longest(alloc, graph, nest, entry, heads, costs)
 }

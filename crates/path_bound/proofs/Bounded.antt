@@ -107,6 +107,7 @@ module _ (graph : List (List ℕ)) (entry : ℕ) (loops : List Loop) (bounds : L
     where
       twice : (x l : ℕ) → min (min x l) l ≡ min x l
       twice x l = omega arith
+
       by : ((loops_in loops).has n ≡ true) ⊎ ((loops_in loops).has n ≡ false) → cap (get_or laps n 0) ≡ cap (further (loops_in loops) (bound_in loops bounds) (full loops turns graph bounds costs order) n)
       by (inl a) =
           ap (λ (x : ℕ). cap x) (turn_of n a).lap
@@ -141,6 +142,7 @@ module _ (graph : List (List ℕ)) (entry : ℕ) (loops : List Loop) (bounds : L
       lower : (h : ℕ) (rest : List ℕ) → AreInside (λ m. ltb (rank_in order m) (rank_in order h)) rest → RankBelow (loops_in loops) (rank_in order) (rank_in order h) rest
       lower h [] s = tt
       lower h (m ∷ rest) s = ((λ a. ltb-true (rank_in order m) (rank_in order h) s.0), lower h rest s.1)
+
       told : (k : ℕ) (one : Turn) → slice_get turns k ≡ Some one → IsTold (full loops turns graph bounds costs order) one
       told k one e =
           let l : IsLoopAt loops k one.head = same_head turns loops k one turned.heads e in
@@ -257,6 +259,7 @@ module _ (graph : List (List ℕ)) (entry : ℕ) (loops : List Loop) (bounds : L
       where
         over : (a b c d l : ℕ) → a ≡ min c l → b ≡ min d l → l ≤ min (a + b) l → l ≤ c + d
         over a b c d l e f h = omega (arith, e, f, h)
+
         back : (a b c d l : ℕ) → a ≡ min c l → b ≡ min d l → l ≤ c + d → l ≤ min (a + b) l
         back a b c d l e f h = omega (arith, e, f, h)
 

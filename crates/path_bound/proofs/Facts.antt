@@ -64,6 +64,7 @@ module _ (graph : List (List ℕ)) (entry : ℕ) (loops : List Loop) (is : IsLoo
       on : (k : ℕ) (rest : List ℕ) → IsForward (loops_of is.nest) k rest → IsForward (loops_in loops) k rest
       on k [] f = tt
       on k (m ∷ rest) f = (sym (same_back k m) ∙ f.0, on m rest f.1)
+
       inside : is.nest.has h ≡ true → (rest : List ℕ) → AreInside (is.nest.body h) rest → AreInside ((loops_in loops).body h) rest
       inside c [] s = tt
       inside c (m ∷ rest) s = (sym (equal.body h m c) ∙ s.0, inside c rest s.1)
@@ -98,6 +99,7 @@ module _ (graph : List (List ℕ)) (entry : ℕ) (loops : List Loop) (is : IsLoo
       on : (k : ℕ) (rest : List ℕ) → IsForward (loops_of is.nest) k rest → IsForward (loops_in loops) k rest
       on k [] f = tt
       on k (m ∷ rest) f = (sym (same_back k m) ∙ f.0, on m rest f.1)
+
       inside : is.nest.has h ≡ true → (rest : List ℕ) → AreInside (is.nest.body h) rest → AreInside ((loops_in loops).body h) rest
       inside c [] s = tt
       inside c (m ∷ rest) s = (sym (equal.body h m c) ∙ s.0, inside c rest s.1)

@@ -105,6 +105,7 @@ module _ (t : Task) (rank : ℕ → ℕ) (size : ℕ) (small : (n : ℕ) → ran
       one : (n : ℕ) (x : ℕ) (b : Bool) → cond b ((t.bound n - 1) * x) 0 ≡ cond b ((t.bound n - 1) * cond b x 0) 0
       one n x true = refl
       one n x false = refl
+
       all : (rest : List ℕ) → AreEven (further t.loops t.bound (λ m. iterate (λ full n. cond (t.loops.has n) (full_next t walk full n) 0) 0 size m)) (further t.loops t.bound (full_of t walk size)) rest
       all [] = tt
       all (n ∷ rest) = (one n (iterate (λ full n. cond (t.loops.has n) (full_next t walk full n) 0) 0 size n) (t.loops.has n), all rest)

@@ -58,8 +58,8 @@ module _ (t : Task) (rank : ℕ → ℕ) (size : ℕ) (small : (n : ℕ) → ran
       → labels_by t inside head laps size n ≡ label_next t inside head laps (labels_by t inside head laps size) n
   label_fixed inside head laps n = stable (label_next t inside head laps) None rank
       (λ f g k same. best_same exact head laps laps (only (goes t inside k) f) (only (goes t inside k) g) (move_of t k) (row_of t k) (start_at head (t.costs.node k))
-          (λ m e. asked_same exact head laps laps f g (goes t inside k) (move_of t k) m
-              (λ h u. same m (falls k m e (goes_forward t inside k m h))) (λ h u. refl)))
+      (λ m e. asked_same exact head laps laps f g (goes t inside k) (move_of t k) m
+      (λ h u. same m (falls k m e (goes_forward t inside k m h))) (λ h u. refl)))
       size (suc size) n (small n) (let s : rank n < size = small n in omega (arith, s))
 
   -- the labels rest on the laps of the heads inside alone
@@ -70,7 +70,7 @@ module _ (t : Task) (rank : ℕ → ℕ) (size : ℕ) (small : (n : ℕ) → ran
       best_same exact head laps others (only (goes t inside n) (labels_by t inside head laps k)) (only (goes t inside n) (labels_by t inside head others k))
       (move_of t n) (row_of t n) (start_at head (t.costs.node n))
       (λ m e. asked_same exact head laps others (labels_by t inside head laps k) (labels_by t inside head others k) (goes t inside n) (move_of t n) m
-          (λ h u. labels_same inside head laps others same k m) (λ h u. same m (goes_inside t inside n m h) u))
+      (λ h u. labels_same inside head laps others same k m) (λ h u. same m (goes_inside t inside n m h) u))
 
   module _ (inner : (h m : ℕ) → t.loops.has h ≡ true → t.loops.body h m ≡ true → (h ≡ m → ⊥) → rank m < rank h) where
     no_head : (f : ℕ → ℕ) (n : ℕ) → t.loops.has n ≡ false → laps_next t size f n ≡ 0

@@ -71,6 +71,7 @@ chosen_of t cut head laps label test cost n start one e = elim (best_chosen cut 
     given m true None f = cc
     given m true (Some two) f = (refl, (two, refl, some_is (sym f)))
     given m false o f = cc
+
     going : (a : IsAsked cut head laps (only test label) (cost n) (row_of t n) one) → is_end head a.node ≡ false
         → asked cut head laps (only test label) (step_to (cost n) a.node) ≡ behind cut laps (step_to (cost n) a.node) (only test label a.node)
         → IsGoing t cut head laps label test cost n one
@@ -186,8 +187,13 @@ module _ (t : Task) (whole : ℕ → Bool) (rank : ℕ → ℕ) (size : ℕ) (sm
     rest = λ n. elim (free_chosen whole n) [
       | inl a ↦ inl a
       | inr a ↦ inr (record {
-        next = a.0; asked = cost_of (through t size whole None a.0); leads = a.1; forward = goes_forward t whole n a.0 a.2;
-        lower = falls n a.0 a.1 (goes_forward t whole n a.0 a.2); label = refl; is = a.3;
+        next = a.0;
+        asked = cost_of (through t size whole None a.0);
+        leads = a.1;
+        forward = goes_forward t whole n a.0 a.2;
+        lower = falls n a.0 a.1 (goes_forward t whole n a.0 a.2);
+        label = refl;
+        is = a.3;
       })
     ];
     turn = λ h n v a bn l.
@@ -205,8 +211,13 @@ module _ (t : Task) (whole : ℕ → Bool) (rank : ℕ → ℕ) (size : ℕ) (sm
                 let i : t.loops.body h x.node ≡ true = goes_inside t (t.loops.body h) n x.node x.may in
                 let c = step_is n x.node f in
                 inr (record {
-                  next = x.node; asked = x.two.cost; leads = two_true (is_edge t.graph n x.node) (t.loops.body h n && t.loops.body h x.node) x.leads (two_true (t.loops.body h n) (t.loops.body h x.node) bn i);
-                  forward = f; lower = falls n x.node x.leads f; label = ap cost_if x.there; is = omega (arith, q, c, s.2);
+                  next = x.node;
+                  asked = x.two.cost;
+                  leads = two_true (is_edge t.graph n x.node) (t.loops.body h n && t.loops.body h x.node) x.leads (two_true (t.loops.body h n) (t.loops.body h x.node) bn i);
+                  forward = f;
+                  lower = falls n x.node x.leads f;
+                  label = ap cost_if x.there;
+                  is = omega (arith, q, c, s.2);
                 })
           ]
         ];
@@ -226,9 +237,13 @@ module _ (t : Task) (whole : ℕ → Bool) (rank : ℕ → ℕ) (size : ℕ) (sm
           let i : t.loops.body h a.0 ≡ true = goes_inside t (t.loops.body h) n a.0 a.2 in
           let f : is_back t.loops n a.0 ≡ false = goes_forward t (t.loops.body h) n a.0 a.2 in
           inr (record {
-            next = a.0; asked = own_of t size h a.0;
+            next = a.0;
+            asked = own_of t size h a.0;
             leads = two_true (is_edge t.graph n a.0) (t.loops.body h n && t.loops.body h a.0) a.1 (two_true (t.loops.body h n) (t.loops.body h a.0) bn i);
-            forward = f; lower = falls n a.0 a.1 f; label = refl; is = a.3;
+            forward = f;
+            lower = falls n a.0 a.1 f;
+            label = refl;
+            is = a.3;
           })
     ];
   }

@@ -2,12 +2,14 @@ pub mod Begun
 pub mod Best
 pub mod Bodies
 pub mod Bounded
+pub mod Concluded
 pub mod Facts
 pub mod Final
 pub mod Fixed
 pub mod Followed
 pub mod Grounded
 pub mod Labelled
+pub mod Marked
 pub mod Named
 pub mod Ordered
 pub mod Passed

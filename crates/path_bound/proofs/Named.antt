@@ -38,10 +38,19 @@ first_cases large (l ∷ loops) entry = by (tells (is_innermost_of large l)) (fi
         → IsFirst large (l ∷ loops) (first_of large (l ∷ loops) entry)
         ⊎ ((first_of large (l ∷ loops) entry ≡ entry) × ((k : ℕ) (one : Loop) → slice_get (l ∷ loops) k ≡ Some one → is_innermost_of large one ≡ false))
     by (inl t) rest = inl (record {
-      place = 0; one = l; at = refl; is = t; head = ap (λ (b : Bool). cond b l.head (first_of large loops entry)) t; before = λ j two a e. absurd (omega (arith, a));
+      place = 0;
+      one = l;
+      at = refl;
+      is = t;
+      head = ap (λ (b : Bool). cond b l.head (first_of large loops entry)) t;
+      before = λ j two a e. absurd (omega (arith, a));
     })
     by (inr t) (inl r) = inl (record {
-      place = suc r.place; one = r.one; at = r.at; is = r.is; head = ap (λ (b : Bool). cond b l.head (first_of large loops entry)) t ∙ r.head;
+      place = suc r.place;
+      one = r.one;
+      at = r.at;
+      is = r.is;
+      head = ap (λ (b : Bool). cond b l.head (first_of large loops entry)) t ∙ r.head;
       before = earlier r;
     })
       where
@@ -108,22 +117,25 @@ module _ (all : Loops) (loops : List Loop) (rise : HeadsRise loops) (listed : (h
   pub named : (entry : ℕ) → IsNamed all own entry (first_of large loops entry)
   named entry = elim (first_cases large loops entry) [
     | inl f ↦ inl (
-        (subst (λ (n : ℕ). IsBlamed all own n) (sym f.head) (to_blamed f.place f.one f.at f.is)),
-        (λ h b.
-            let l : IsLoopOf all loops h = listed h b.head in
-            let i : is_innermost_of large l.one ≡ true = of_blamed l.place l.one l.at (subst (λ (n : ℕ). IsBlamed all own n) (sym l.head) b) in
-            elim (cases_lt l.place f.place) [
-              | inl a ↦ let g : is_innermost_of large l.one ≡ false = f.before l.place l.one a l.at in cc
-              | inr a ↦ elim (cases_lt f.place l.place) [
-                | inl c ↦ let r : f.one.head < l.one.head = rise f.place l.place f.one l.one c f.at l.at in omega (arith, r, f.head, l.head)
-                | inr c ↦
-                    let q : f.place ≡ l.place = omega (arith, a, c) in
-                    let s : f.one ≡ l.one = some_eq (sym f.at ∙ (ap (slice_get loops) q ∙ l.at)) in omega (arith, f.head, l.head, ap (λ (x : Loop). x.head) s)
-              ]
-            ]),
-      )
-    | inr f ↦ inr (f.0, (λ h b.
-        let l : IsLoopOf all loops h = listed h b.head in
-        let i : is_innermost_of large l.one ≡ true = of_blamed l.place l.one l.at (subst (λ (n : ℕ). IsBlamed all own n) (sym l.head) b) in
-        let g : is_innermost_of large l.one ≡ false = f.1 l.place l.one l.at in cc))
+      (subst (λ (n : ℕ). IsBlamed all own n) (sym f.head) (to_blamed f.place f.one f.at f.is)),
+      (λ h b.
+          let l : IsLoopOf all loops h = listed h b.head in
+          let i : is_innermost_of large l.one ≡ true = of_blamed l.place l.one l.at (subst (λ (n : ℕ). IsBlamed all own n) (sym l.head) b) in
+          elim (cases_lt l.place f.place) [
+            | inl a ↦ let g : is_innermost_of large l.one ≡ false = f.before l.place l.one a l.at in cc
+            | inr a ↦ elim (cases_lt f.place l.place) [
+              | inl c ↦ let r : f.one.head < l.one.head = rise f.place l.place f.one l.one c f.at l.at in omega (arith, r, f.head, l.head)
+              | inr c ↦
+                  let q : f.place ≡ l.place = omega (arith, a, c) in
+                  let s : f.one ≡ l.one = some_eq (sym f.at ∙ (ap (slice_get loops) q ∙ l.at)) in omega (arith, f.head, l.head, ap (λ (x : Loop). x.head) s)
+            ]
+          ]),
+    )
+    | inr f ↦ inr (
+      f.0,
+      (λ h b.
+          let l : IsLoopOf all loops h = listed h b.head in
+          let i : is_innermost_of large l.one ≡ true = of_blamed l.place l.one l.at (subst (λ (n : ℕ). IsBlamed all own n) (sym l.head) b) in
+          let g : is_innermost_of large l.one ≡ false = f.1 l.place l.one l.at in cc),
+    )
   ]

@@ -116,6 +116,7 @@ module _ (edge : ℕ → ℕ → Bool) (loops : Loops) (inside : ℕ → Bool) (
           most : (b : Bool) → rank_in xs (get_or xs k 0) ≤ k → cond b 0 (suc (rank_in xs (get_or xs k 0))) ≤ suc k
           most true r = omega arith
           most false r = omega (arith, r)
+
       there : (xs : List ℕ) (k : ℕ) → k < length xs → has xs (get_or xs k 0) ≡ true
       there [] k l = absurd (omega (arith, l))
       there (x ∷ xs) zero l = ap (λ (b : Bool). b || has xs x) (eq-eqb x x refl)
@@ -167,6 +168,7 @@ reached_inside edge entry nest is reached h n a b =
     inside_last : (between : List ℕ) → AreInside (nest.body h) between → AreInside (nest.body h) (between ++ n ∷ [])
     inside_last [] s = (b, tt)
     inside_last (m ∷ between) s = (s.0, inside_last between s.1)
+
     end_last : (m : ℕ) (between : List ℕ) → end_of m (between ++ n ∷ []) ≡ n
     end_last m [] = refl
     end_last m (k ∷ between) = end_last k between

@@ -52,9 +52,11 @@ has_in_take xs (suc i) k l h = elim (cases_lt k i) [
   where
     one_more : (i : ℕ) → suc i ≡ i + 1
     one_more i = omega arith
+
     or_true : (a b : Bool) → b ≡ true → (a || b) ≡ true
     or_true true b h = refl
     or_true false b h = h
+
     has_later : has (take i xs) (get_or xs k 0) ≡ true → has (take (suc i) xs) (get_or xs k 0) ≡ true
     has_later p = subst (λ (j : ℕ). has (take j xs) (get_or xs k 0) ≡ true) (sym (one_more i)) (has_take_more xs i (get_or xs k 0) (omega (arith, h)) ∙ ap (λ (b : Bool). b || (get_or xs k 0 == get_or xs i 0)) p)
 
@@ -111,7 +113,7 @@ module _ (order : List ℕ) (head : Option ℕ) (node : List ℕ) (steps : List 
       | inr a ↦
           let e : i ≡ k = omega (arith, h, a) in
           subst (λ (j : ℕ). label_at (set labels (get_or order i 0) o) (get_or order j 0)
-              ≡ best_of cap head (λ m. get_or laps m 0) (only (has (take j order)) (label_at (set labels (get_or order i 0) o))) (start_at head (cap (get_or node (get_or order j 0) 0))) (steps_at steps (get_or order j 0))) e
+          ≡ best_of cap head (λ m. get_or laps m 0) (only (has (take j order)) (label_at (set labels (get_or order i 0) o))) (start_at head (cap (get_or node (get_or order j 0) 0))) (steps_at steps (get_or order j 0))) e
           (label_here labels (get_or order i 0) o within
           ∙ (is ∙ ap (λ (f : ℕ → Option Label). best_of cap head (λ m. get_or laps m 0) f (start_at head (cap (get_or node (get_or order i 0) 0))) (steps_at steps (get_or order i 0))) (fun_ext only_these)))
     ];
@@ -187,6 +189,7 @@ cleared_on nodes i first labels l w size was = record {
     or_all : (a : Bool) → (a || true) ≡ true
     or_all true = refl
     or_all false = refl
+
     or_none : (a : Bool) → (a || false) ≡ a
     or_none true = refl
     or_none false = refl

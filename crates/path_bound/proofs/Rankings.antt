@@ -62,7 +62,15 @@ module _ (edge : ℕ → ℕ → Bool) (loops : Loops) (count : ℕ) (inside : �
   -- a node that is placed needn't be advanced
   pub skipped : is_placed placed node ≡ true → IsRanking edge loops count inside done pending order placed waiting
   skipped p = record {
-    below = is.below; placed_so = is.placed_so; others = is.others; within = is.within; once = is.once; before = is.before; quiet = is.quiet; listed = is.listed; woken = is.woken;
+    below = is.below;
+    placed_so = is.placed_so;
+    others = is.others;
+    within = is.within;
+    once = is.once;
+    before = is.before;
+    quiet = is.quiet;
+    listed = is.listed;
+    woken = is.woken;
     open_so = λ n i. elim (is.open_so n i) [
       | inl a ↦ inl a
       | inr b ↦ elim b [
@@ -133,6 +141,7 @@ module _ (edge : ℕ → ℕ → Bool) (loops : Loops) (count : ℕ) (inside : �
       or_none : (a : Bool) → (a || false) ≡ a
       or_none true = refl
       or_none false = refl
+
       last : (k : ℕ) → k < length (order ++ node ∷ []) → length order ≤ k → length order ≡ k
       last k h a = let s : length (order ++ node ∷ []) ≡ length order + 1 = length-append order (node ∷ []) in omega (arith, s, h, a)
 
@@ -140,20 +149,33 @@ module _ (edge : ℕ → ℕ → Bool) (loops : Loops) (count : ℕ) (inside : �
   pub waited_on : (m : ℕ) (row : Vec ℕ Global) → m < length waiting → IsUnplaced edge loops placed node m → row.items ≡ waits_for waiting m ++ node ∷ []
       → IsRanking edge loops count inside done pending order placed (set waiting m row)
   waited_on m row l u e = record {
-    below = is.below; placed_so = is.placed_so; others = is.others; within = is.within; once = is.once; before = is.before; woken = is.woken;
+    below = is.below;
+    placed_so = is.placed_so;
+    others = is.others;
+    within = is.within;
+    once = is.once;
+    before = is.before;
+    woken = is.woken;
     open_so = λ n i. elim (is.open_so n i) [
       | inl a ↦ inl a
       | inr b ↦ elim b [
         | inl a ↦ elim (all n a) [
           | inl q ↦ inr (inr (record {
-            at = m; leads = ap (λ (x : ℕ). edge x m) q ∙ u.leads; forward = ap (λ (x : ℕ). is_back loops x m) q ∙ u.forward; within = there;
+            at = m;
+            leads = ap (λ (x : ℕ). edge x m) q ∙ u.leads;
+            forward = ap (λ (x : ℕ). is_back loops x m) q ∙ u.forward;
+            within = there;
             listed = ap (λ (x : List ℕ). has x n) (waits_same waiting m row l ∙ e) ∙ (has-push (waits_for waiting m) node n ∙ or_right (has (waits_for waiting m) n) (n == node) (eq-eqb n node q));
             asleep = sleeps;
           }))
           | inr q ↦ inr (inl q)
         ]
         | inr w ↦ inr (inr (record {
-          at = w.at; leads = w.leads; forward = w.forward; within = w.within; asleep = w.asleep;
+          at = w.at;
+          leads = w.leads;
+          forward = w.forward;
+          within = w.within;
+          asleep = w.asleep;
           listed = elim (eqb_tells w.at m) [
             | inl q ↦
                 ap (λ (x : ℕ). has (waits_for (set waiting m row) x) n) q.1
@@ -171,9 +193,9 @@ module _ (edge : ℕ → ℕ → Bool) (loops : Loops) (count : ℕ) (inside : �
     listed = λ k n h. elim (eqb_tells k m) [
       | inl q ↦ elim (or_cases (has (waits_for waiting m) n) (n == node)
           (sym (ap (λ (x : ℕ). has (waits_for (set waiting m row) x) n) q.1 ∙ (ap (λ (x : List ℕ). has x n) (waits_same waiting m row l ∙ e) ∙ has-push (waits_for waiting m) node n)) ∙ h)) [
-        | inl a ↦ is.listed m n a
-        | inr a ↦ ap inside (equal n node a) ∙ here
-      ]
+            | inl a ↦ is.listed m n a
+            | inr a ↦ ap inside (equal n node a) ∙ here
+          ]
       | inr q ↦ is.listed k n (sym (ap (λ (x : List ℕ). has x n) (waits_other waiting m k row q.1)) ∙ h)
     ];
   }
@@ -183,6 +205,7 @@ module _ (edge : ℕ → ℕ → Bool) (loops : Loops) (count : ℕ) (inside : �
         | inl t ↦ t
         | inr t ↦ let a : is_placed placed m ≡ true = is.others m t in let b : is_placed placed m ≡ false = u.missing in cc
       ]
+
       sleeps : has done m ≡ false
       sleeps = elim (tells (has done m)) [
         | inl t ↦ let a : is_placed placed m ≡ true = is.placed_so m there ∙ is.woken m t in let b : is_placed placed m ≡ false = u.missing in cc
@@ -195,7 +218,12 @@ pub woken_on : (edge : ℕ → ℕ → Bool) (loops : Loops) (count : ℕ) (insi
     → IsRanking edge loops count inside done (λ _. false) order placed waiting
     → IsRanking edge loops count inside next (has (waits_for waiting node)) order placed (set waiting node row)
 woken_on edge loops count inside done next node order placed waiting row more placed_there l none is = record {
-  below = is.below; placed_so = is.placed_so; others = is.others; within = is.within; once = is.once; before = is.before;
+  below = is.below;
+  placed_so = is.placed_so;
+  others = is.others;
+  within = is.within;
+  once = is.once;
+  before = is.before;
   open_so = λ n i. elim (is.open_so n i) [
     | inl a ↦ inl a
     | inr b ↦ elim b [
@@ -203,7 +231,10 @@ woken_on edge loops count inside done next node order placed waiting row more pl
       | inr w ↦ elim (eqb_tells w.at node) [
         | inl q ↦ inr (inl (ap (λ (x : ℕ). has (waits_for waiting x) n) (sym q.1) ∙ w.listed))
         | inr q ↦ inr (inr (record {
-          at = w.at; leads = w.leads; forward = w.forward; within = w.within;
+          at = w.at;
+          leads = w.leads;
+          forward = w.forward;
+          within = w.within;
           listed = ap (λ (x : List ℕ). has x n) (waits_other waiting node w.at row q.1) ∙ w.listed;
           asleep = more w.at ∙ (ap (λ (b : Bool). b || (w.at == node)) w.asleep ∙ q.0);
         }))
@@ -238,6 +269,7 @@ has_filter p (x ∷ xs) n = by_test (tells (p x)) (has_filter p xs n)
     never : (a b : Bool) → b ≡ false → (a && b) ≡ false
     never true b h = h
     never false b h = refl
+
     by_test : (p x ≡ true) ⊎ (p x ≡ false) → has (filter p xs) n ≡ (has xs n && p n) → has (filter p (x ∷ xs)) n ≡ (has (x ∷ xs) n && p n)
     by_test (inl t) rest =
         ap (λ (b : Bool). has (cond b (x ∷ filter p xs) (filter p xs)) n) t
@@ -265,7 +297,9 @@ module _ (edge : ℕ → ℕ → Bool) (loops : Loops) (count : ℕ) (nodes done
         | inr c ↦ elim c [
           | inl a ↦ cc
           | inr w ↦ record {
-            next = w.at; leads = w.leads; forward = w.forward;
+            next = w.at;
+            leads = w.leads;
+            forward = w.forward;
             inside = has_filter (λ m. not (has order m)) nodes w.at ∙ two_true (has nodes w.at) (not (has order w.at)) w.within (elim (tells (has order w.at)) [
               | inl t ↦ let d : has done w.at ≡ true = all w.at t in let a : has done w.at ≡ false = w.asleep in cc
               | inr t ↦ ap not t

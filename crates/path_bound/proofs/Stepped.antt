@@ -15,6 +15,9 @@ use Rattle.path_bound.specs.Places.{extra_at, extra_of}
 use Rattle.path_bound.specs.Steps.{step_to, moves, items_of, steps_at, AreStepsOf, AreRows}
 use Rattle.path_bound.proofs.Best.{has_first, or_right}
 
+some_step : {x y : Step} → Some x ≡ Some y → x ≡ y
+some_step e = cc
+
 -- costs that are the same for each node of a list
 pub moves_same : (f g : ℕ → ℕ) (nodes : List ℕ) → ((m : ℕ) → has nodes m ≡ true → f m ≡ g m) → moves f nodes ≡ moves g nodes
 moves_same f g [] e = refl
@@ -119,27 +122,31 @@ added_to graph rows from to cost place row step rise l h at e named told f are =
         (steps_set rows from row l ∙ (e ∙ (ap (λ (s : List Step). set s place step) (are.row from) ∙ (ap (λ (s : Step). set (moves (λ m. cap (f from m)) (get_or graph from [])) place s) new
         ∙ moves_set (λ m. cap (f from m)) (λ m. cap (f from m + extra_at (from, to, cost) from m)) (get_or graph from []) place h
         (λ j b ne.
-            let z : extra_at (from, to, cost) from (get_or (get_or graph from []) j 0) ≡ 0 =
-            no_extra from to cost from (get_or (get_or graph from []) j 0) (λ p r. ne (rising_once (get_or graph from []) rise j place b h (r ∙ sym at))) in
-            ap (λ (c : ℕ). cap c) (let g : f from (get_or (get_or graph from []) j 0) ≡ f from (get_or (get_or graph from []) j 0) + extra_at (from, to, cost) from (get_or (get_or graph from []) j 0) = omega (arith, z) in g))))))
+        let z : extra_at (from, to, cost) from (get_or (get_or graph from []) j 0) ≡ 0 =
+        no_extra from to cost from (get_or (get_or graph from []) j 0) (λ p r. ne (rising_once (get_or graph from []) rise j place b h (r ∙ sym at))) in
+        ap (λ (c : ℕ). cap c) (let g : f from (get_or (get_or graph from []) j 0) ≡ f from (get_or (get_or graph from []) j 0) + extra_at (from, to, cost) from (get_or (get_or graph from []) j 0) = omega (arith, z) in g))))))
     | inr q ↦
         steps_other rows from n row q.1
         ∙ (are.row n ∙ moves_same (λ m. cap (f n m)) (λ m. cap (f n m + extra_at (from, to, cost) n m)) (get_or graph n [])
         (λ m b.
-            let z : extra_at (from, to, cost) n m ≡ 0 = no_extra from to cost n m (λ p r. q.1 p) in
-            ap (λ (c : ℕ). cap c) (let g : f n m ≡ f n m + extra_at (from, to, cost) n m = omega (arith, z) in g)))
+        let z : extra_at (from, to, cost) n m ≡ 0 = no_extra from to cost n m (λ p r. q.1 p) in
+        ap (λ (c : ℕ). cap c) (let g : f n m ≡ f n m + extra_at (from, to, cost) n m = omega (arith, z) in g)))
   ];
 }
   where
     old : get_or (steps_at rows from) place step ≡ record { to = to; cost = cap (f from to) }
     old = ap (λ (s : List Step). get_or s place step) (are.row from) ∙ (moves_read (λ m. cap (f from m)) (get_or graph from []) place step h ∙ ap (step_to (λ m. cap (f from m))) at)
+
     sum : (a b l : ℕ) → min (min a l + b) l ≡ min (a + b) l
     sum a b l = omega arith
+
     cost_is : step.cost ≡ cap (f from to + extra_at (from, to, cost) from to)
     cost_is =
         told ∙ (ap (λ (s : Step). cap (s.cost + cost)) old ∙ (sum (f from to) cost limit ∙ ap (λ (c : ℕ). cap (f from to + c)) (sym (the_extra from to cost))))
+
     pair : (a b : Step) → a.to ≡ b.to → a.cost ≡ b.cost → a ≡ b
     pair a b p q = ap (λ (t : ℕ). record { to = t; cost = a.cost }) p ∙ ap (λ (c : ℕ). record { to = b.to; cost = c }) q
+
     new : step ≡ step_to (λ m. cap (f from m + extra_at (from, to, cost) from m)) (get_or (get_or graph from []) place 0)
     new = pair step (step_to (λ m. cap (f from m + extra_at (from, to, cost) from m)) (get_or (get_or graph from []) place 0))
         (named ∙ (ap (λ (s : Step). s.to) old ∙ sym at)) (cost_is ∙ ap (λ (k : ℕ). cap (f from k + extra_at (from, to, cost) from k)) (sym at))
@@ -180,6 +187,7 @@ plain_on graph node count rows row e was = record {
     get_before [] x n l = absurd (omega (arith, l))
     get_before (y ∷ xs) x zero l = refl
     get_before (y ∷ xs) x (suc n) l = get_before xs x n (omega (arith, l))
+
     get_last : (xs : List (Vec Step Global)) (x : Vec Step Global) → slice_get (xs ++ x ∷ []) (length xs) ≡ Some x
     get_last [] x = refl
     get_last (y ∷ xs) x = get_last xs x
@@ -199,3 +207,22 @@ plain_done graph node count rows e was = record {
 -- steps whose costs are the same
 pub steps_same : (graph : List (List ℕ)) (f g : ℕ → ℕ → ℕ) (rows : List (Vec Step Global)) → ((n m : ℕ) → f n m ≡ g n m) → AreStepsOf graph f rows → AreStepsOf graph g rows
 steps_same graph f g rows e are = record { count = are.count; row = λ n. are.row n ∙ moves_same (f n) (g n) (get_or graph n []) (λ m h. e n m) }
+
+-- steps lead to nodes
+pub steps_within : (graph : List (List ℕ)) (cost : ℕ → ℕ → ℕ) (rows : List (Vec Step Global)) → ((n m : ℕ) → has (get_or graph n []) m ≡ true → m < length graph) → AreStepsOf graph cost rows
+    → (n k : ℕ) (step : Step) → slice_get (steps_at rows n) k ≡ Some step → step.to < length graph
+steps_within graph cost rows within are n k step e = within n step.to (there (cost n) (get_or graph n []) k (ap (λ (s : List Step). slice_get s k) (sym (are.row n)) ∙ e))
+  where
+    there : (f : ℕ → ℕ) (nodes : List ℕ) (k : ℕ) → slice_get (moves f nodes) k ≡ Some step → has nodes step.to ≡ true
+    there f [] k e = cc
+    there f (m ∷ nodes) zero e = let q : m ≡ step.to = ap (λ (s : Step). s.to) (some_step e) in ap (λ (b : Bool). b || has nodes step.to) (eq-eqb step.to m (sym q))
+    there f (m ∷ nodes) (suc k) e = or_right (step.to == m) (has nodes step.to) (there f nodes k e)
+
+pub one_extra : (f : ℕ) (extra : List (ℕ × ℕ × ℕ)) (i n m : ℕ) (d : ℕ × ℕ × ℕ) → i < length extra
+    → cap (f + extra_of (take i extra) n m + extra_at (get_or extra i d) n m) ≡ cap (f + extra_of (take (i + 1) extra) n m)
+one_extra f extra i n m d l =
+    let e : extra_of (take (i + 1) extra) n m ≡ extra_of (take i extra) n m + extra_at (get_or extra i d) n m = extra_more extra i n m d l in
+    ap (λ (c : ℕ). cap c) (together f (extra_of (take i extra) n m) (extra_at (get_or extra i d) n m) (extra_of (take (i + 1) extra) n m) e)
+  where
+    together : (f a b c : ℕ) → c ≡ a + b → f + a + b ≡ f + c
+    together f a b c e = omega (arith, e)

@@ -36,8 +36,8 @@ module _ (graph : List (List ℕ)) (loops : List Loop) (bounds : List ℕ) (cost
       turned_on (task_of graph loops bounds costs) loops order ground k l at (sym here) head r.one r.head (λ n. ap (λ (o : Option Loop). held o n) r.at) costs.node.items steps (λ n. refl) are.row laps turns was
       place (get_or bounds place 0) b.0 (ap (λ (p : ℕ). get_or bounds p 0) (sym b.0)) new after within there
       (λ h a ne q.
-          let w : place_of loops h < length loops = ltb-true (place_of loops h) (length loops) (sym (head_place loops h) ∙ a) in
-          let s : IsLoopAt loops (place_of loops h) h = place_reads loops h w in
-          let f : s.one ≡ r.one = some_eq (sym s.at ∙ (ap (slice_get loops) q ∙ found)) in
-          ne (sym s.head ∙ (ap (λ (x : Loop). x.head) f ∙ r.head)))
+      let w : place_of loops h < length loops = ltb-true (place_of loops h) (length loops) (sym (head_place loops h) ∙ a) in
+      let s : IsLoopAt loops (place_of loops h) h = place_reads loops h w in
+      let f : s.one ≡ r.one = some_eq (sym s.at ∙ (ap (slice_get loops) q ∙ found)) in
+      ne (sym s.head ∙ (ap (λ (x : Loop). x.head) f ∙ r.head)))
       (taken r.one found)

@@ -122,9 +122,9 @@ module _ (t : Task) (inside : ℕ → Bool) (order : List ℕ) (is : IsForwardOr
       ∙ best_same cap head (λ m. get_or laps m 0) (λ m. get_or laps m 0) (only (has (take k order)) (label_at labels)) (only (goes t inside n) (label_at labels)) (λ m. cap (move_of t n m)) (row_of t n)
       (start_at head (cap (t.costs.node n)))
       (λ m e. ap (λ (o : Option Label). cond (is_end head m) (Some (record { cost = cap (move_of t n m); next = None })) (behind cap (λ m. get_or laps m 0) (step_to (λ m. cap (move_of t n m)) m) o))
-          (only_both (has (take k order) m) (goes t inside n m) (label_at labels m)
-              (λ h. two_true (inside m) (not (is_back t.loops n m)) (earlier k m h) (ap not (is.forward k m l e h)))
-              (λ h. inl (is.sorted.before k m l (goes_inside t inside n m h) e (goes_forward t inside n m h)))))))
+      (only_both (has (take k order) m) (goes t inside n m) (label_at labels m)
+      (λ h. two_true (inside m) (not (is_back t.loops n m)) (earlier k m h) (ap not (is.forward k m l e h)))
+      (λ h. inl (is.sorted.before k m l (goes_inside t inside n m h) e (goes_forward t inside n m h)))))))
     where
       taken : (i : ℕ) (xs : List ℕ) (m : ℕ) → has (take i xs) m ≡ true → has xs m ≡ true
       taken zero xs m h = cc
@@ -133,6 +133,7 @@ module _ (t : Task) (inside : ℕ → Bool) (order : List ℕ) (is : IsForwardOr
         | inl a ↦ ap (λ (b : Bool). b || has xs m) a.0
         | inr a ↦ or_right (m == x) (has xs m) (taken i xs m (sym (ap (λ (b : Bool). b || has (take i xs) m) a.0) ∙ h))
       ]
+
       earlier : (k m : ℕ) → has (take k order) m ≡ true → inside m ≡ true
       earlier k m h = sym (is.sorted.same m) ∙ taken k order m h
 
@@ -148,23 +149,24 @@ module _ (t : Task) (inside : ℕ → Bool) (order : List ℕ) (is : IsForwardOr
     capped_by zero n l i = absurd (omega (arith, l))
     capped_by (suc k) n l i =
         let a : label_at labels n
-            ≡ best_of cap head (λ m. get_or laps m 0) (only (goes t inside n) (label_at labels)) (start_at head (cap (t.costs.node n))) (moves (λ m. cap (move_of t n m)) (row_of t n)) =
+        ≡ best_of cap head (λ m. get_or laps m 0) (only (goes t inside n) (label_at labels)) (start_at head (cap (t.costs.node n))) (moves (λ m. cap (move_of t n m)) (row_of t n)) =
         told_next n (all n i) in
         let b : labels_by t inside head costs size n ≡ label_next t inside head costs (labels_by t inside head costs size) n = label_fixed t rank size small falls inside head costs n in
         let c : IsCapped (best_of cap head (λ m. get_or laps m 0) (only (goes t inside n) (label_at labels)) (start_at head (cap (t.costs.node n))) (moves (λ m. cap (move_of t n m)) (row_of t n)))
-            (label_next t inside head costs (labels_by t inside head costs size) n) =
+        (label_next t inside head costs (labels_by t inside head costs size) n) =
         best_capped head (λ m. get_or laps m 0) costs (only (goes t inside n) (label_at labels)) (only (goes t inside n) (labels_by t inside head costs size)) (move_of t n) (row_of t n)
         (start_at head (cap (t.costs.node n))) (start_at head (t.costs.node n)) (start_capped head (t.costs.node n))
         (λ m e. asked_capped (is_end head m) (λ m. get_or laps m 0) costs (move_of t n) m (only (goes t inside n) (label_at labels) m) (only (goes t inside n) (labels_by t inside head costs size) m)
-            (λ o x q. told m (goes_inside t inside n m (of_one (goes t inside n m) (label_at labels m) x q)) o)
-            (λ o. of_two (goes t inside n m) (label_at labels m) (labels_by t inside head costs size m)
-                (λ g. capped_by k m (let r : rank m < rank n = falls n m e (goes_forward t inside n m g) in omega (arith, l, r)) (goes_inside t inside n m g)))) in
+        (λ o x q. told m (goes_inside t inside n m (of_one (goes t inside n m) (label_at labels m) x q)) o)
+        (λ o. of_two (goes t inside n m) (label_at labels m) (labels_by t inside head costs size m)
+        (λ g. capped_by k m (let r : rank m < rank n = falls n m e (goes_forward t inside n m g) in omega (arith, l, r)) (goes_inside t inside n m g)))) in
         subst (λ (o : Option Label). IsCapped o (labels_by t inside head costs size n)) (sym a)
         (subst (λ (o : Option Label). IsCapped (best_of cap head (λ m. get_or laps m 0) (only (goes t inside n) (label_at labels)) (start_at head (cap (t.costs.node n))) (moves (λ m. cap (move_of t n m)) (row_of t n))) o) (sym b) c)
       where
         of_two : (g : Bool) (o p : Option Label) → (g ≡ true → IsCapped o p) → IsCapped (cond g o None) (cond g p None)
         of_two true o p f = f refl
         of_two false o p f = tt
+
         of_one : (g : Bool) (o : Option Label) (x : Label) → cond g o None ≡ Some x → g ≡ true
         of_one true o x e = refl
         of_one false o x e = cc
@@ -179,7 +181,10 @@ module _ (t : Task) (inside : ℕ → Bool) (order : List ℕ) (is : IsForwardOr
         let same : h ≡ x.node = equal h x.node x.ends in
         let q : one.cost ≡ cap (move_of t n x.node) = ap (λ (o : Label). o.cost) x.is in
         record {
-          walk = tt; forward = tt; stays = tt; falls = λ limit l. tt;
+          walk = tt;
+          forward = tt;
+          stays = tt;
+          falls = λ limit l. tt;
           back = λ k f. subst (λ (y : ℕ). is_edge t.graph n y ≡ true) (sym same ∙ some_is f) x.leads;
           cost = q ∙ (ap (λ (y : ℕ). cap (move_of t n y)) (sym same) ∙ ap (λ (y : ℕ). cap y) (sym (zero-add (move_of t n h))));
         }
@@ -189,7 +194,11 @@ module _ (t : Task) (inside : ℕ → Bool) (order : List ℕ) (is : IsForwardOr
 
     begun : (h : Option ℕ) (n : ℕ) (one : Label) → start_at h (cap (t.costs.node n)) ≡ Some one → IsTrip t inside h (λ m. get_or laps m 0) rank n [] one
     begun None n one e = record {
-      walk = tt; forward = tt; stays = tt; falls = λ limit l. tt; back = λ k f. cc;
+      walk = tt;
+      forward = tt;
+      stays = tt;
+      falls = λ limit l. tt;
+      back = λ k f. cc;
       cost = ap (λ (o : Label). o.cost) (sym (some_is e)) ∙ ap (λ (y : ℕ). cap y) (sym (zero-add (t.costs.node n)));
     }
     begun (Some h) n one e = cc

@@ -129,7 +129,11 @@ module _ (t : Task) (loops : List Loop) (order : List ℕ) (ground : IsGround t 
   kept_turn : (laps others : ℕ → ℕ) (h : ℕ) (walk : List ℕ) (cost : ℕ) → ((m : ℕ) → rank_in order m < rank_in order h → laps m ≡ others m) → laps h ≡ others h
       → IsTurnOf t (rank_in order) laps h walk cost → IsTurnOf t (rank_in order) others h walk cost
   kept_turn laps others h walk cost same here is = record {
-    walked = is.walked; forward = is.forward; stays = is.stays; lower = is.lower; back = is.back;
+    walked = is.walked;
+    forward = is.forward;
+    stays = is.stays;
+    lower = is.lower;
+    back = is.back;
     told = is.told ∙ ap (λ (s : ℕ). cap (s + move_of t (end_of h walk) h)) (toll_same t.costs laps others h walk (even walk is.lower));
     lap = sym here ∙ is.lap;
   }
@@ -235,7 +239,11 @@ module _ (t : Task) (loops : List Loop) (order : List ℕ) (ground : IsGround t 
 
       here_turn : IsTurnOf t (rank_in order) (λ m. get_or new m 0) x (rest_of taken.turn.walk.items) taken.turn.cost
       here_turn = subst (λ (w : List ℕ). IsTurnOf t (rank_in order) (λ m. get_or new m 0) x w taken.turn.cost) (sym rest_is) (record {
-        walked = trip.walk; forward = trip.forward; stays = trip.stays; lower = trip.falls (rank_in order x) (omega arith); back = trip.back x refl;
+        walked = trip.walk;
+        forward = trip.forward;
+        stays = trip.stays;
+        lower = trip.falls (rank_in order x) (omega arith);
+        back = trip.back x refl;
         told = cost_is ∙ (ap cost_of label.1 ∙ (trip.cost ∙ ap (λ (s : ℕ). cap (s + move_of t (end_of x followed.rest) x))
             (toll_same t.costs (λ m. get_or laps m 0) (λ m. get_or new m 0) x followed.rest (even followed.rest (trip.falls (rank_in order x) (omega arith))))));
         lap = new_at;

@@ -1,3 +1,4 @@
+pub mod Answered
 pub mod Blamed
 pub mod Capped
 pub mod Choosing

@@ -81,8 +81,9 @@ fn large_heads(
 {
     let mut large = no_marks(alloc, graph.count())?;
     for place in 0..loops.len() {
-        let is =
-            is_large(alloc, graph, loops, places, node, steps, place, ranking, laps, labels)?;
+        let is = is_large(
+            alloc, graph, loops, places, node, steps, place, ranking, laps, labels,
+        )?;
         large[loops[place].head as usize] = is;
     }
     Ok(large)
@@ -141,6 +142,8 @@ pub(crate) fn blamed(
     requires none { NoLabels labels.old }
     ensures { IfOk result (λ named. IsNamedBy (is_edge graph.now) loops.now (loops_in loops.now) entry node.now steps.now laps.now named) }
 {
-    let large = large_heads(alloc, graph, loops, places, node, steps, ranking, laps, labels)?;
+    let large = large_heads(
+        alloc, graph, loops, places, node, steps, ranking, laps, labels,
+    )?;
     Ok(first_blamed(loops, &large, entry))
 }

@@ -25,24 +25,25 @@ fn is_end(head: Option<u32>, node: u32) -> bool
 }
 
 /// What a step asks of the label of the node from which it leads, by the label of the node to which it leads.
-fn asked(
-    head: Option<u32>,
-    laps: &[u64],
-    labels: &[Option<Label>],
-    step: Step,
-) -> Option<Label>
+fn asked(head: Option<u32>, laps: &[u64], labels: &[Option<Label>], step: Step) -> Option<Label>
     requires laps { step.to < length laps.now }
     requires labels { step.to < length labels.now }
     ensures { result ≡ asks cap head (slice_index laps.now) (label_at labels.now) step }
 {
     if is_end(head, step.to) {
-        return Some(Label { cost: step.cost, next: None });
+        return Some(Label {
+            cost: step.cost,
+            next: None,
+        });
     }
     match labels[step.to as usize] {
         None => None,
         Some(label) => {
             let before = sum(step.cost, laps[step.to as usize]);
-            Some(Label { cost: sum(before, label.cost), next: Some(step.to) })
+            Some(Label {
+                cost: sum(before, label.cost),
+                next: Some(step.to),
+            })
         }
     }
 }
@@ -55,13 +56,7 @@ fn greater(one: Option<Label>, two: Option<Label>) -> Option<Label>
         None => two,
         Some(old) => match two {
             None => one,
-            Some(new) => {
-                if old.cost < new.cost {
-                    two
-                } else {
-                    one
-                }
-            }
+            Some(new) => { if old.cost < new.cost { two } else { one } }
         },
     }
 }

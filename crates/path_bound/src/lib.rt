@@ -2,6 +2,7 @@
 #![tactic(auto)]
 
 mod adding;
+mod answering;
 mod blaming;
 mod bounding;
 mod choosing;

@@ -30,7 +30,10 @@ fn start_of(head: Option<u32>, cost: u64) -> Option<Label>
     ensures { result ≡ start_at head (cap cost) }
 {
     match head {
-        None => Some(Label { cost: capped(cost), next: None }),
+        None => Some(Label {
+            cost: capped(cost),
+            next: None,
+        }),
         Some(_) => None,
     }
 }

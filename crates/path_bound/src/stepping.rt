@@ -1,6 +1,6 @@
 ghost use Rattle.std.specs.Prelude.{◌≡◌, ◌+◌, ℕ, length, slice_index, vec_len, IfOk};
 ghost use Rattle.path_bound.specs.Capped.{cap};
-ghost use Rattle.path_bound.specs.Places.{extra_at, costs_in};
+ghost use Rattle.path_bound.specs.Places.{extra_at, extra_of, costs_in};
 ghost use Rattle.path_bound.specs.Steps.{AreStepsOf, AreRows, moves};
 
 use crate::adding::{capped, sum};
@@ -51,18 +51,22 @@ fn add_extra(graph: &Graph, rows: &mut [Vec<Step>], from: u32, to: u32, cost: u6
     }
 }
 
+/// Adds what some edges cost to their steps.
+fn add_extras(graph: &Graph, rows: &mut [Vec<Step>], extra: &[(u32, u32, u64)])
+    requires { AreRows graph.now rows.old }
+    ensures { (f : ℕ → ℕ → ℕ) → AreStepsOf graph.now (λ n m. cap (f n m)) rows.old → AreStepsOf graph.now (λ n m. cap (f n m + extra_of extra.now n m)) rows.new }
+{
+    for (from, to, cost) in extra {
+        add_extra(graph, rows, *from, *to, *cost);
+    }
+}
+
 /// The steps from each node of a graph.
-pub(crate) fn steps_of(
-    alloc: Global,
-    graph: &Graph,
-    costs: &Costs,
-) -> Result<Vec<Vec<Step>>, Want>
+pub(crate) fn steps_of(alloc: Global, graph: &Graph, costs: &Costs) -> Result<Vec<Vec<Step>>, Want>
     requires { vec_len costs.now.node ≡ length graph.now }
     ensures { IfOk result (λ rows. AreStepsOf graph.now (λ n m. cap ((costs_in costs.now).node n + (costs_in costs.now).edge n m)) rows.items) }
 {
     let mut rows = plain_rows(alloc, graph, &costs.node)?;
-    for (from, to, cost) in &costs.extra {
-        add_extra(graph, &mut rows, *from, *to, *cost);
-    }
+    add_extras(graph, &mut rows, &costs.extra);
     Ok(rows)
 }

@@ -50,7 +50,15 @@ fn first_survey(
     let laps = no_laps(alloc, graph.count())?;
     let labels = no_labels(alloc, graph.count())?;
     let turns = empty_turns(alloc, loops)?;
-    Ok(Survey { places, order, steps, ranking, laps, labels, turns })
+    Ok(Survey {
+        places,
+        order,
+        steps,
+        ranking,
+        laps,
+        labels,
+        turns,
+    })
 }
 
 /// What is known of a graph whose turns are taken.

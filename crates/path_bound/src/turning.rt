@@ -26,7 +26,11 @@ pub(crate) fn empty_turns(alloc: Global, loops: &[Loop]) -> Result<Vec<Turn>, Wa
 {
     let mut turns = Vec::new(alloc);
     for one in loops {
-        turns.push(Turn { head: one.head, cost: 0, walk: Vec::new(alloc) })?;
+        turns.push(Turn {
+            head: one.head,
+            cost: 0,
+            walk: Vec::new(alloc),
+        })?;
     }
     Ok(turns)
 }
@@ -164,7 +168,8 @@ pub(crate) fn take_turns(
 {
     for at in order {
         take_head(
-            alloc, graph, loops, places, bounds, costs, steps, order, *at, ranking, laps, labels, turns,
+            alloc, graph, loops, places, bounds, costs, steps, order, *at, ranking, laps, labels,
+            turns,
         )?;
     }
     Ok(())

@@ -69,8 +69,8 @@ loop-place-preserved c =
     let rows : c.deref.result.now ≡ waits_for c.loop-place.ranking.waiting.items c.index-node.result.now =
     c.deref.ensures.value ∙ (ap (λ (r : Vec ℕ Global). r.items) c.replace-woken.ensures.value ∙ waits_read c.loop-place.ranking.waiting.items c.index-node.result.now c.index_mut.result.now w c.index_mut.ensures.value) in
     let woke : IsRanking (is_edge c.args.graph.now) (loops_in c.args.loops.now) (length c.args.graph.now) (has c.args.nodes.now) (take (c.loop-place.place + 1) c.loop-place.order.items)
-        (has (waits_for c.loop-place.ranking.waiting.items c.index-node.result.now)) c.loop-place.order.items c.loop-place.ranking.placed.items
-        (set c.loop-place.ranking.waiting.items c.index-node.result.now c.replace-woken.new.dest) =
+    (has (waits_for c.loop-place.ranking.waiting.items c.index-node.result.now)) c.loop-place.order.items c.loop-place.ranking.placed.items
+    (set c.loop-place.ranking.waiting.items c.index-node.result.now c.replace-woken.new.dest) =
     woken_on (is_edge c.args.graph.now) (loops_in c.args.loops.now) (length c.args.graph.now) (has c.args.nodes.now) (take c.loop-place.place c.loop-place.order.items) (take (c.loop-place.place + 1) c.loop-place.order.items)
     c.index-node.result.now c.loop-place.order.items c.loop-place.ranking.placed.items c.loop-place.ranking.waiting.items c.replace-woken.new.dest
     (λ n. has_take_more c.loop-place.order.items c.loop-place.place n l ∙ ap (λ (y : ℕ). has (take c.loop-place.place c.loop-place.order.items) n || (n == y)) x)

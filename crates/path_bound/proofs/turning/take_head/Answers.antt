@@ -19,4 +19,4 @@ returns-in-Some-clause-turns c = on_ok c.take_turn.result c.take_turn.ensures.ta
     head_taken c.args.graph.now c.args.loops.now c.args.bounds.now c.args.costs.now c.args.order.now c.requires.ground k l c.args.at here c.args.laps.now c.args.turns.now was c.in-Some.place e
     c.args.steps.now c.requires.steps c.take_turn.new.laps c.take_turn.new.turns (omega (arith, c.requires.at, c.requires.sizes.lapped)) (omega (arith, b.1, c.requires.turns))
     (λ one at. subst (λ (n : List ℕ). IsTaken (is_edge c.args.graph.now) (loops_in c.args.loops.now) one (get_or c.args.bounds.now c.in-Some.place 0) c.in-Some.place n c.args.steps.now
-        c.args.laps.now c.take_turn.new.laps c.args.turns.now c.take_turn.new.turns) c.deref.ensures.value (taken one at)))
+    c.args.laps.now c.take_turn.new.laps c.args.turns.now c.take_turn.new.turns) c.deref.ensures.value (taken one at)))

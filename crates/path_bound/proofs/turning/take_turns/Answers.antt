@@ -11,8 +11,11 @@ loop-at-preserved c =
     let e = c.in_ok-take_head.ensures {u = tt} in
     record {
       sizes = record {
-        costs = c.requires.sizes.costs; rows = c.requires.sizes.rows; within = c.requires.sizes.within;
-        lapped = c.take_head.auto.laps ∙ c.loop-at.invariant.sizes.lapped; marked = c.take_head.auto.labels ∙ c.loop-at.invariant.sizes.marked;
+        costs = c.requires.sizes.costs;
+        rows = c.requires.sizes.rows;
+        within = c.requires.sizes.within;
+        lapped = c.take_head.auto.laps ∙ c.loop-at.invariant.sizes.lapped;
+        marked = c.take_head.auto.labels ∙ c.loop-at.invariant.sizes.marked;
       };
       turned = e.turns c.loop-at.at-index c.loop-at-test.true refl c.loop-at.invariant.turned;
       ready = e.ready;

@@ -1,1 +1,0 @@
-use Rattle.path_bound.proofs.blaming.first_blamed.Goals as goal

@@ -1,1 +1,0 @@
-use Rattle.path_bound.proofs.bounding.concluded.Goals as goal

@@ -1,1 +1,0 @@
-use Rattle.path_bound.proofs.ranking.new_ranking.Goals as goal

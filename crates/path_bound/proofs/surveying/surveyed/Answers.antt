@@ -1,1 +1,0 @@
-use Rattle.path_bound.proofs.surveying.surveyed.Goals as goal

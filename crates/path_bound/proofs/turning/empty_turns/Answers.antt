@@ -1,1 +1,0 @@
-use Rattle.path_bound.proofs.turning.empty_turns.Goals as goal
