@@ -3,11 +3,9 @@ use Rattle.std.proofs.Common.{◌≡◌, ◌==◌, ◌||◌, ◌⊎◌, ℕ, ◌
 use Rattle.std.proofs.lemmas.Bool.{eq-eqb, ltb-true, ltb-false}
 use Rattle.std.proofs.lemmas.Bool.Decides.{eqb_tells}
 use Rattle.bt_base.specs.Graph.{has}
-use Rattle.graph_laws.proofs.Stretches.{tells}
 use Rattle.path_bound.specs.declared.choosing.Label.{Label}
-use Rattle.path_bound.specs.declared.stepping.Step.{Step}
 use Rattle.path_bound.specs.Steps.{step_to, moves}
-use Rattle.path_bound.specs.Choosing.{is_end, behind, asked, greater, best_of}
+use Rattle.path_bound.specs.Choosing.{asked, greater, best_of}
 
 -- a label that is there and costs at least so much
 pub record IsLabel (label : Option Label) (cost : ℕ) : Type 0 where

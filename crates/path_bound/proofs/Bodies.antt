@@ -1,5 +1,5 @@
 -- The nodes of a body in an order, and the labels of a pass over them.
-use Rattle.std.proofs.Common.{◌≡◌, ◌<◌, ◌≤◌, ℕ, Bool, true, Option, Some, List, length, get_or, refl, sym, ap, subst, ◌∙◌, arith, Vec, Global}
+use Rattle.std.proofs.Common.{◌≡◌, ◌<◌, ℕ, Bool, true, Option, Some, List, length, sym, ap, subst, ◌∙◌, Vec, Global}
 use Rattle.std.specs.List.{slice_get}
 use Rattle.bt_base.specs.Graph.{has}
 use Rattle.graph_laws.specs.Loops.{Loops}

@@ -1,13 +1,13 @@
 -- The greatest cost of all walks, as it is told, or the node that is named where it can't be.
-use Rattle.std.proofs.Common.{◌≡◌, ◌≢◌, ◌==◌, ◌&&◌, ◌||◌, ◌⊎◌, ◌↔◌, ◌*◌, ◌-◌, ℕ, zero, suc, ◌+◌, ◌<◌, ◌≤◌, inl, inr, Bool, true, false, not, Option, Some, None, List, [], ◌∷◌, length, map, take, get_or, cond, ltb, refl, sym, ap, subst, ◌∙◌, arith, Vec, Global}
+use Rattle.std.proofs.Common.{◌≡◌, ◌⊎◌, ◌↔◌, ◌*◌, ◌-◌, ℕ, zero, suc, ◌+◌, ◌<◌, ◌≤◌, inl, inr, Bool, true, false, Option, Some, None, List, [], ◌∷◌, length, map, get_or, cond, ltb, refl, sym, ap, subst, ◌∙◌, arith, Vec, Global}
 use Rattle.std.specs.Prelude.{min}
 use Rattle.std.specs.List.{slice_get}
-use Rattle.std.proofs.lemmas.Bool.{cases_lt, ltb-true, lt-ltb}
+use Rattle.std.proofs.lemmas.Bool.{ltb-true, lt-ltb}
 use Rattle.std.proofs.lemmas.Option.{slice_get_within}
 use Rattle.bt_base.specs.Graph.{has, is_edge}
-use Rattle.graph_laws.specs.Walk.{Costs, IsWalk, AreInside, end_of}
-use Rattle.graph_laws.specs.Loops.{Loops, AreLoops, is_back, IsForward, IsGreatestCost, edges_inside}
-use Rattle.graph_laws.specs.Collapsed.{Turns, RankBelow, AreTurns, further_cost, steps_cost}
+use Rattle.graph_laws.specs.Walk.{AreInside, end_of}
+use Rattle.graph_laws.specs.Loops.{AreLoops, IsGreatestCost}
+use Rattle.graph_laws.specs.Collapsed.{RankBelow, further_cost, steps_cost}
 use Rattle.graph_laws.proofs.Stretches.{tells}
 use Rattle.loop_nest.proofs.Lists.{has_take_all}
 use Rattle.loop_nest.specs.LoopNest.{HeadsRise}
@@ -19,18 +19,18 @@ use Rattle.path_bound.specs.declared.stepping.Step.{Step}
 use Rattle.path_bound.specs.declared.weights.Costs.{Costs as Weights}
 use Rattle.path_bound.specs.Blamed.{first_of, AreLarge}
 use Rattle.path_bound.specs.Capped.{limit, cap}
-use Rattle.path_bound.specs.Choosing.{label_at, is_end, cost_of, next_of}
-use Rattle.path_bound.specs.Exact.{Task, row_of, move_of, labels_by, laps_of, own_of}
+use Rattle.path_bound.specs.Choosing.{label_at, cost_of}
+use Rattle.path_bound.specs.Exact.{move_of, labels_by, laps_of, own_of}
 use Rattle.path_bound.specs.LongWalk.{rest_of, turn_walk, turns_in, IsTold, AreTold, IsLongest, IsTooLarge}
-use Rattle.path_bound.specs.Places.{place_of, held, loops_in, bound_in, costs_in, AreBounds}
-use Rattle.path_bound.specs.Ranked.{rank_in, IsOrder, IsForwardOrder}
+use Rattle.path_bound.specs.Places.{place_of, held, loops_in, bound_in, costs_in}
+use Rattle.path_bound.specs.Ranked.{rank_in, IsForwardOrder}
 use Rattle.path_bound.specs.Steps.{moves, steps_at}
 use Rattle.path_bound.specs.Turned.{task_of, size_of, IsGround, IsTurnOf, IsTurnAt, AreTurnedUpTo}
 use Rattle.path_bound.specs.Turning.{ArePassed, IsFollowed, IsWeighed, toll}
 use Rattle.path_bound.proofs.Best.{IsLabel}
 use Rattle.path_bound.proofs.Final.{AreSame, further, toll_capped, steps_toll, full_next, full_of, full_fixed, told_full, lap_capped}
 use Rattle.path_bound.proofs.Labelled.{starting, greatest, own_greatest}
-use Rattle.path_bound.proofs.Ordered.{rank_most, place_in}
+use Rattle.path_bound.proofs.Ordered.{place_in}
 use Rattle.path_bound.proofs.Named.{IsLoopOf, named}
 use Rattle.path_bound.proofs.Placed.{IsLoopAt, place_is, place_reads, head_place}
 use Rattle.path_bound.proofs.Told.{IsCapped, IsTrip, told_capped, trip_of}

@@ -1,10 +1,9 @@
 -- A survey, a pass over all nodes and a walk or a named node make the answer.
-use Rattle.std.proofs.Common.{◌≡◌, ◌≢◌, ◌==◌, ◌+◌, ◌<◌, ◌≤◌, ℕ, Bool, true, false, Option, Some, None, List, ◌∷◌, length, get_or, refl, sym, ap, subst, ◌∙◌, arith, ltb, Vec, Global}
-use Rattle.std.specs.List.{slice_get}
+use Rattle.std.proofs.Common.{◌≡◌, ◌+◌, ◌<◌, ◌≤◌, ℕ, true, Option, Some, None, List, length, get_or, refl, sym, subst, ◌∙◌, arith, Vec, Global}
 use Rattle.std.proofs.lemmas.Bool.{ltb-true}
 use Rattle.bt_base.specs.Graph.{has, is_edge, IsGraph}
 use Rattle.graph_laws.specs.Nest.{IsReached}
-use Rattle.loop_nest.specs.LoopNest.{is_head, IsLoopNest}
+use Rattle.loop_nest.specs.LoopNest.{IsLoopNest}
 use Rattle.loop_nest.specs.declared.natural_loop.Loop.{Loop}
 use Rattle.path_bound.specs.declared.choosing.Label.{Label}
 use Rattle.path_bound.specs.declared.answering.Best.{Best}

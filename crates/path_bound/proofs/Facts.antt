@@ -1,16 +1,15 @@
 -- What a nest says of the loops that are listed.
-use Rattle.std.proofs.Common.{◌≡◌, ◌≢◌, ◌==◌, ◌&&◌, ◌⊎◌, ℕ, ◌+◌, ◌<◌, ◌≤◌, inl, inr, Bool, true, false, Option, Some, None, List, [], ◌∷◌, length, get_or, cond, ltb, refl, sym, ap, subst, ◌∙◌, arith}
-use Rattle.std.specs.List.{slice_get}
+use Rattle.std.proofs.Common.{◌≡◌, ◌&&◌, ℕ, ◌<◌, inl, inr, Bool, true, Option, List, [], ◌∷◌, length, sym, ap, ◌∙◌}
 use Rattle.std.proofs.lemmas.Bool.{cases_lt, ltb-true}
 use Rattle.std.proofs.lemmas.List.{get_or_past}
 use Rattle.bt_base.specs.Graph.{has, is_edge}
-use Rattle.graph_laws.specs.Walk.{IsWalk, AreInside, end_of}
-use Rattle.graph_laws.specs.Loops.{Loops, AreLoops, is_back, IsForward}
-use Rattle.graph_laws.specs.Nest.{cut, SamePart, Nest, IsNest, loops_of, IsReached, AreReached}
+use Rattle.graph_laws.specs.Walk.{AreInside}
+use Rattle.graph_laws.specs.Loops.{AreLoops, is_back, IsForward}
+use Rattle.graph_laws.specs.Nest.{cut, SamePart, loops_of, IsReached, AreReached}
 use Rattle.graph_laws.specs.Forward.{HasForwardNext, AreEqual, HasTurn}
 use Rattle.graph_laws.proofs.Forward.{equal_loops, sets_end, heads_turn}
 use Rattle.graph_laws.proofs.Nests.{leaves, head_inside, nests_loops}
-use Rattle.graph_laws.proofs.Stretches.{tells, both}
+use Rattle.graph_laws.proofs.Stretches.{tells}
 use Rattle.loop_nest.specs.declared.natural_loop.Loop.{Loop}
 use Rattle.loop_nest.specs.LoopNest.{is_head, IsLoopOf, IsLoopNest}
 use Rattle.path_bound.specs.Places.{place_of, held, loops_in, AreLoopsBelow}

@@ -1,15 +1,12 @@
 -- What is told is what there is: costs up to the limit, and the walks for which turns stand.
-use Rattle.std.proofs.Common.{◌≡◌, ◌≢◌, ◌==◌, ◌&&◌, ◌⊎◌, ◌*◌, ◌-◌, ◌^◌, ℕ, zero, suc, ◌+◌, ◌<◌, ◌≤◌, inl, inr, Bool, true, false, Option, Some, None, List, [], ◌∷◌, length, map, get_or, cond, ltb, refl, sym, ap, subst, ◌∙◌, arith, lit≤}
+use Rattle.std.proofs.Common.{◌≡◌, ◌⊎◌, ◌*◌, ◌-◌, ℕ, zero, suc, ◌+◌, ◌<◌, ◌≤◌, inl, inr, Bool, true, false, List, [], ◌∷◌, cond, ltb, refl, sym, ap, ◌∙◌, arith, lit≤}
 use Rattle.std.specs.Prelude.{min}
-use Rattle.std.specs.List.{slice_get}
 use Rattle.std.proofs.lemmas.Bool.{cases_lt, ltb-true}
 use Rattle.std.proofs.Math.Nat.{mul-le-mul_left}
-use Rattle.bt_base.specs.Graph.{has, is_edge}
-use Rattle.graph_laws.specs.Walk.{Costs, IsWalk, AreInside, end_of}
-use Rattle.graph_laws.specs.Loops.{Loops, AreLoops, is_back, IsForward}
-use Rattle.graph_laws.specs.Collapsed.{Turns, RankBelow, AreTurns, further_cost, steps_cost}
+use Rattle.graph_laws.specs.Walk.{Costs, AreInside, end_of}
+use Rattle.graph_laws.specs.Loops.{Loops}
+use Rattle.graph_laws.specs.Collapsed.{Turns, further_cost, steps_cost}
 use Rattle.graph_laws.proofs.Stretches.{tells}
-use Rattle.path_bound.specs.declared.long_walk.Turn.{Turn}
 use Rattle.path_bound.specs.Capped.{limit, cap}
 use Rattle.path_bound.specs.Exact.{iterate, Task, move_of}
 use Rattle.path_bound.specs.Turned.{IsTurnOf}

@@ -1,9 +1,9 @@
 -- Functions that are defined in steps are fixed, where each step looks only at nodes of smaller rank.
-use Rattle.std.proofs.Common.{◌≡◌, ◌≢◌, ◌&&◌, ◌*◌, ◌-◌, ℕ, zero, suc, ◌+◌, ◌<◌, inl, inr, Bool, true, false, not, Option, Some, None, List, cond, refl, sym, ap, ◌∙◌, arith}
+use Rattle.std.proofs.Common.{◌≡◌, ◌*◌, ◌-◌, ℕ, zero, suc, ◌<◌, inl, inr, Bool, true, false, not, Option, Some, None, cond, refl, sym, ap, ◌∙◌, arith}
 use Rattle.std.proofs.lemmas.Bool.{eq-eqb}
-use Rattle.bt_base.specs.Graph.{has, is_edge}
+use Rattle.bt_base.specs.Graph.{is_edge}
 use Rattle.graph_laws.proofs.Stretches.{tells, both}
-use Rattle.graph_laws.specs.Loops.{Loops, is_back}
+use Rattle.graph_laws.specs.Loops.{is_back}
 use Rattle.graph_laws.proofs.Nests.{not_false}
 use Rattle.path_bound.specs.declared.choosing.Label.{Label}
 use Rattle.path_bound.specs.Capped.{exact}

@@ -1,6 +1,5 @@
 -- The nodes to which labels lead come before.
-use Rattle.std.proofs.Common.{◌≡◌, ◌==◌, ◌||◌, ◌⊎◌, ℕ, zero, suc, ◌+◌, ◌<◌, ◌≤◌, inl, inr, Bool, true, false, Option, Some, None, List, [], ◌∷◌, length, take, get_or, cond, refl, sym, ap, subst, ◌∙◌, arith, Vec, Global}
-use Rattle.std.specs.List.{slice_get}
+use Rattle.std.proofs.Common.{◌≡◌, ◌==◌, ◌||◌, ℕ, zero, suc, ◌<◌, ◌≤◌, inl, inr, Bool, true, false, Option, Some, None, List, [], ◌∷◌, length, take, get_or, cond, refl, sym, ap, ◌∙◌, arith, Vec, Global}
 use Rattle.bt_base.specs.Graph.{has}
 use Rattle.graph_laws.proofs.Stretches.{tells}
 use Rattle.path_bound.specs.declared.choosing.Label.{Label}
@@ -12,7 +11,6 @@ use Rattle.path_bound.specs.Steps.{steps_at}
 use Rattle.path_bound.specs.Turning.{ArePassed}
 use Rattle.path_bound.proofs.Best.{greater_either}
 use Rattle.path_bound.proofs.Ordered.{rank_at, rank_within, rank_taken}
-use Rattle.path_bound.proofs.Passed.{take_on}
 
 some_eq : {A : Type 0} {x y : A} → Some x ≡ Some y → x ≡ y
 some_eq e = cc

@@ -1,15 +1,14 @@
 -- An order of all nodes of a graph with a nest, and what it says of loops.
-use Rattle.std.proofs.Common.{◌≡◌, ◌≢◌, ◌&&◌, ◌↔◌, ℕ, suc, ◌+◌, ◌<◌, inl, inr, Bool, true, false, Option, Some, List, length, get_or, refl, sym, ap, subst, ◌∙◌, arith}
+use Rattle.std.proofs.Common.{◌≡◌, ℕ, ◌<◌, inl, inr, true, Option, List, length, sym, ap, ◌∙◌, arith}
 use Rattle.std.proofs.lemmas.Bool.Decides.{eqb_tells}
 use Rattle.bt_base.specs.Graph.{has, is_edge, IsGraph}
-use Rattle.graph_laws.specs.Loops.{Loops, AreLoops}
 use Rattle.graph_laws.specs.Nest.{IsReached}
 use Rattle.loop_nest.specs.Finding.{AreNodes}
 use Rattle.loop_nest.specs.LoopNest.{IsLoopNest}
 use Rattle.loop_nest.specs.declared.natural_loop.Loop.{Loop}
 use Rattle.path_bound.specs.declared.weights.Costs.{Costs as Weights}
-use Rattle.path_bound.specs.Places.{place_of, held, loops_in, AreLoopsBelow}
-use Rattle.path_bound.specs.Ranked.{rank_in, IsOrder, IsForwardOrder}
+use Rattle.path_bound.specs.Places.{place_of, held, loops_in}
+use Rattle.path_bound.specs.Ranked.{IsOrder, IsForwardOrder}
 use Rattle.path_bound.specs.Turned.{task_of, IsGround}
 use Rattle.path_bound.proofs.Facts.{edge_from, loop_at, are_loops, reach, below, turn}
 use Rattle.path_bound.proofs.Ordered.{order_falls, body_below, forward_order}

@@ -1,11 +1,11 @@
 -- Labels without a limit are at least what they must be, and each is one of these: they say greatest costs.
-use Rattle.std.proofs.Common.{◌≡◌, ◌≢◌, ◌==◌, ◌&&◌, ◌⊎◌, ◌*◌, ◌-◌, ℕ, suc, ◌+◌, ◌<◌, ◌≤◌, inl, inr, Bool, true, false, not, Option, Some, None, List, cond, refl, sym, ap, subst, ◌∙◌, arith}
+use Rattle.std.proofs.Common.{◌≡◌, ◌==◌, ◌&&◌, ◌⊎◌, ◌*◌, ◌-◌, ℕ, ◌+◌, ◌<◌, ◌≤◌, inl, inr, Bool, true, false, not, Option, Some, None, cond, refl, sym, ap, subst, ◌∙◌, arith}
 use Rattle.std.specs.Prelude.{unwrap_or}
 use Rattle.std.proofs.lemmas.Bool.{eq-eqb}
 use Rattle.std.proofs.lemmas.Bool.Decides.{eqb_tells}
-use Rattle.bt_base.specs.Graph.{has, is_edge}
-use Rattle.graph_laws.specs.Loops.{Loops, AreLoops, is_back, IsGreatestCost, edges_inside}
-use Rattle.graph_laws.specs.Labels.{Labels, laps_cost, charge, step_cost, IsAtLeast, AreLabels, IsAsked as IsAskedBy, AreChosen, most_from, AreOwnLabels, AreOwnChosen}
+use Rattle.bt_base.specs.Graph.{is_edge}
+use Rattle.graph_laws.specs.Loops.{AreLoops, is_back, IsGreatestCost, edges_inside}
+use Rattle.graph_laws.specs.Labels.{laps_cost, charge, step_cost, IsAtLeast, AreLabels, AreChosen, AreOwnLabels, AreOwnChosen}
 use Rattle.graph_laws.proofs.Attained.{chosen_greatest, own_greatest as own_chosen_greatest}
 use Rattle.graph_laws.proofs.Nests.{two_true}
 use Rattle.graph_laws.proofs.Stretches.{tells}
@@ -13,7 +13,7 @@ use Rattle.path_bound.specs.declared.choosing.Label.{Label}
 use Rattle.path_bound.specs.Capped.{exact}
 use Rattle.path_bound.specs.Steps.{step_to, moves}
 use Rattle.path_bound.specs.Choosing.{is_end, behind, asked, best_of, start_at, only, cost_of}
-use Rattle.path_bound.specs.Exact.{Task, row_of, move_of, goes, label_next, labels_by, laps_next, laps_of, cost_if, labels_of, own_of}
+use Rattle.path_bound.specs.Exact.{Task, row_of, move_of, goes, label_next, labels_by, laps_of, cost_if, labels_of, own_of}
 use Rattle.path_bound.proofs.Best.{IsLabel, IsAsked, some_is, best_start, best_least, best_chosen}
 use Rattle.path_bound.proofs.Fixed.{goes_forward, goes_inside, label_fixed, laps_fixed}
 

@@ -1,11 +1,10 @@
 -- Loops are weighed one after the other.
-use Rattle.std.proofs.Common.{◌≡◌, ◌≢◌, ◌==◌, ◌⊎◌, ℕ, suc, ◌+◌, ◌<◌, ◌≤◌, inl, inr, Bool, true, false, Option, Some, None, List, length, set, get_or, ltb, refl, sym, ap, subst, ◌∙◌, arith, Vec, Global}
+use Rattle.std.proofs.Common.{◌≡◌, ℕ, ◌+◌, ◌<◌, ◌≤◌, inl, inr, Bool, false, Some, List, length, set, sym, ap, subst, ◌∙◌, arith, Vec, Global}
 use Rattle.std.specs.List.{slice_get}
 use Rattle.std.proofs.lemmas.Bool.{cases_lt, ltb-false}
 use Rattle.std.proofs.lemmas.List.{get_or-set_same, get_or-set_other}
 use Rattle.std.proofs.lemmas.Option.{slice_get_within}
-use Rattle.graph_laws.specs.Loops.{Loops}
-use Rattle.loop_nest.specs.LoopNest.{is_head, HeadsRise}
+use Rattle.loop_nest.specs.LoopNest.{HeadsRise}
 use Rattle.loop_nest.specs.declared.natural_loop.Loop.{Loop}
 use Rattle.path_bound.specs.declared.stepping.Step.{Step}
 use Rattle.path_bound.specs.Blamed.{is_marked, AreLarge}

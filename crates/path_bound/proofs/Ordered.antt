@@ -1,5 +1,5 @@
 -- Heads come last: the nodes of a body rank below its head, and no edge back leads to a node before.
-use Rattle.std.proofs.Common.{◌≡◌, ◌≢◌, ◌==◌, ◌&&◌, ◌||◌, ◌⊎◌, ℕ, zero, suc, ◌+◌, ◌<◌, ◌≤◌, inl, inr, Bool, true, false, not, List, [], ◌∷◌, ◌++◌, length, take, get_or, cond, refl, sym, ap, subst, ◌∙◌, arith}
+use Rattle.std.proofs.Common.{◌≡◌, ◌==◌, ◌&&◌, ◌||◌, ℕ, zero, suc, ◌<◌, ◌≤◌, inl, inr, Bool, true, false, List, [], ◌∷◌, ◌++◌, length, take, get_or, cond, refl, sym, ap, ◌∙◌, arith}
 use Rattle.std.proofs.lemmas.Bool.{eq-eqb, cases_lt}
 use Rattle.std.proofs.lemmas.Bool.Decides.{eqb_tells}
 use Rattle.bt_base.specs.Graph.{has}
@@ -9,11 +9,10 @@ use Rattle.graph_laws.specs.Nest.{cut, SamePart, Nest, IsNest, loops_of, IsReach
 use Rattle.graph_laws.specs.Forward.{IsReachedForward}
 use Rattle.graph_laws.proofs.Forward.{reached_forward}
 use Rattle.graph_laws.proofs.Inner.{inner_loops}
-use Rattle.graph_laws.proofs.Nests.{cut_edge, head_inside, stays_inside, nests_loops, two_true, neither}
+use Rattle.graph_laws.proofs.Nests.{cut_edge, head_inside, stays_inside, nests_loops, two_true}
 use Rattle.graph_laws.proofs.Stretches.{tells, both}
 use Rattle.graph_laws.proofs.Walks.{walk_of_more}
 use Rattle.path_bound.specs.Ranked.{rank_in, IsOrder, IsForwardOrder}
-use Rattle.path_bound.proofs.Passed.{take_on}
 use Rattle.path_bound.proofs.Told.{IsAt}
 
 -- walks inside a body

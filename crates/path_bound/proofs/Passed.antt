@@ -1,5 +1,5 @@
 -- Labels are given to one node after the other, and labels lead along a walk.
-use Rattle.std.proofs.Common.{◌≡◌, ◌≢◌, ◌==◌, ◌||◌, ◌⊎◌, ℕ, zero, suc, ◌+◌, ◌<◌, ◌≤◌, inl, inr, Bool, true, false, Option, Some, None, List, [], ◌∷◌, ◌++◌, length, take, drop, set, get_or, cond, refl, sym, ap, subst, ◌∙◌, arith, Vec, Global}
+use Rattle.std.proofs.Common.{◌≡◌, ◌≢◌, ◌==◌, ◌||◌, ℕ, zero, suc, ◌+◌, ◌<◌, ◌≤◌, inl, inr, Bool, true, false, Option, Some, None, List, [], ◌∷◌, ◌++◌, length, take, drop, set, get_or, cond, refl, sym, ap, subst, ◌∙◌, arith, Vec, Global}
 use mathlib.Core.Path.{fun_ext}
 use Rattle.std.proofs.lemmas.Bool.{eq-eqb, cases_lt}
 use Rattle.std.proofs.lemmas.Bool.Decides.{eqb_tells}
@@ -14,7 +14,6 @@ use Rattle.path_bound.specs.declared.choosing.Label.{Label}
 use Rattle.path_bound.specs.declared.stepping.Step.{Step}
 use Rattle.path_bound.specs.Capped.{cap}
 use Rattle.path_bound.specs.Choosing.{label_at, asked, greater, best_of, start_at, only, next_of}
-use Rattle.path_bound.specs.Ranked.{rank_in}
 use Rattle.path_bound.specs.Steps.{items_of, steps_at}
 use Rattle.path_bound.specs.Turning.{NoLabels, ArePassed, Leads, IsFollowed}
 

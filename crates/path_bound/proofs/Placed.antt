@@ -1,15 +1,14 @@
 -- The place of the loop of a head.
-use Rattle.std.proofs.Common.{◌≡◌, ◌≢◌, ◌==◌, ◌&&◌, ◌||◌, ◌⊎◌, ℕ, zero, suc, ◌+◌, ◌<◌, ◌≤◌, inl, inr, Bool, true, false, Option, Some, None, List, [], ◌∷◌, length, set, get_or, cond, ltb, refl, sym, ap, subst, ◌∙◌, arith}
+use Rattle.std.proofs.Common.{◌≡◌, ◌==◌, ◌||◌, ◌⊎◌, ℕ, zero, suc, ◌+◌, ◌<◌, ◌≤◌, inl, inr, Bool, true, false, Option, Some, None, List, [], ◌∷◌, length, set, get_or, cond, ltb, sym, ap, ◌∙◌, arith}
 use Rattle.std.specs.List.{slice_get}
-use Rattle.std.proofs.lemmas.Bool.{eq-eqb, cases_lt, lt-ltb, le-ltb, ltb-true, ltb-false}
+use Rattle.std.proofs.lemmas.Bool.{eq-eqb, cases_lt, lt-ltb, le-ltb, ltb-true}
 use Rattle.std.proofs.lemmas.Bool.Decides.{eqb_tells}
-use Rattle.std.proofs.lemmas.List.{length-set, get_or-set_same, get_or-set_other}
+use Rattle.std.proofs.lemmas.List.{get_or-set_same, get_or-set_other}
 use Rattle.std.proofs.lemmas.Option.{slice_get_within}
 use Rattle.graph_laws.proofs.Stretches.{tells}
-use Rattle.bt_base.specs.Graph.{has}
 use Rattle.loop_nest.specs.declared.natural_loop.Loop.{Loop}
 use Rattle.loop_nest.specs.LoopNest.{is_head, HeadsRise}
-use Rattle.path_bound.specs.Places.{place_of, held, loops_in, place_below, AreLoopsBelow}
+use Rattle.path_bound.specs.Places.{place_of, place_below, AreLoopsBelow}
 
 pub some_one : {A : Type 0} {x y : A} → Some x ≡ Some y → x ≡ y
 some_one e = cc

@@ -1,7 +1,6 @@
 -- Nodes are placed one after the other, or wait, and are woken.
-use Rattle.std.proofs.Common.{◌≡◌, ◌≢◌, ◌==◌, ◌&&◌, ◌||◌, ◌⊎◌, ℕ, zero, suc, ◌+◌, ◌-◌, ◌<◌, ◌≤◌, inl, inr, Bool, true, false, not, Option, Some, None, List, [], ◌∷◌, ◌++◌, length, take, set, get_or, cond, refl, sym, ap, subst, ◌∙◌, arith, Vec, Global}
+use Rattle.std.proofs.Common.{◌≡◌, ◌≢◌, ◌==◌, ◌&&◌, ◌||◌, ◌⊎◌, ℕ, ◌+◌, ◌-◌, ◌<◌, ◌≤◌, inl, inr, Bool, true, false, not, Some, List, [], ◌∷◌, ◌++◌, length, take, set, get_or, cond, refl, sym, ap, subst, ◌∙◌, arith, Vec, Global}
 use Rattle.std.specs.Prelude.{filter}
-use Rattle.std.specs.List.{slice_get}
 use Rattle.std.proofs.lemmas.Bool.{eq-eqb, cases_lt}
 use Rattle.std.proofs.lemmas.Bool.Decides.{eqb_tells}
 use Rattle.std.proofs.lemmas.List.{take-append-le, length-append, get_or_append_left, get_or-set_same, get_or-set_other, length-set}
@@ -10,11 +9,11 @@ use Rattle.std.proofs.Math.Seq.{take-append_seam, get_or-append_seam}
 use Rattle.bt_base.specs.Graph.{has}
 use Rattle.graph_laws.specs.Loops.{Loops, is_back}
 use Rattle.graph_laws.specs.Forward.{HasForwardNext}
-use Rattle.graph_laws.proofs.Nests.{two_true, not_false, neither}
+use Rattle.graph_laws.proofs.Nests.{two_true, not_false}
 use Rattle.graph_laws.proofs.Stretches.{tells, both}
 use Rattle.loop_nest.proofs.Lists.{has-push, has_take_more}
 use Rattle.path_bound.specs.Ranked.{IsOrder}
-use Rattle.path_bound.specs.Ranking.{is_placed, waiters, waits_for, IsWaiting, IsRanking, HaveEnds, HasGrown, IsUnplaced, AllArePlaced}
+use Rattle.path_bound.specs.Ranking.{is_placed, waiters, waits_for, IsRanking, HaveEnds, HasGrown, IsUnplaced, AllArePlaced}
 
 or_left : (a b : Bool) → a ≡ true → (a || b) ≡ true
 or_left true b h = refl

@@ -1,15 +1,15 @@
 -- The turn that is taken of a loop is one of the turns of the graph.
-use Rattle.std.proofs.Common.{◌≡◌, ◌≢◌, ◌==◌, ◌&&◌, ◌+◌, ℕ, ◌<◌, Bool, true, false, Option, Some, None, List, [], ◌∷◌, length, get_or, refl, sym, ap, subst, ◌∙◌, arith, Vec, Global}
+use Rattle.std.proofs.Common.{◌≡◌, ◌+◌, ℕ, ◌<◌, true, Option, Some, None, List, length, get_or, refl, sym, ap, ◌∙◌, arith, Vec, Global}
 use Rattle.std.specs.List.{slice_get}
 use Rattle.std.proofs.lemmas.Bool.{ltb-true}
-use Rattle.bt_base.specs.Graph.{has, is_edge}
+use Rattle.bt_base.specs.Graph.{is_edge}
 use Rattle.loop_nest.specs.LoopNest.{is_head}
 use Rattle.loop_nest.specs.declared.natural_loop.Loop.{Loop}
 use Rattle.path_bound.specs.declared.long_walk.Turn.{Turn}
 use Rattle.path_bound.specs.declared.stepping.Step.{Step}
 use Rattle.path_bound.specs.declared.weights.Costs.{Costs as Weights}
 use Rattle.path_bound.specs.Capped.{cap}
-use Rattle.path_bound.specs.Places.{place_of, held, loops_in, bound_in, costs_in, place_below}
+use Rattle.path_bound.specs.Places.{place_of, held, loops_in, costs_in, place_below}
 use Rattle.path_bound.specs.Steps.{AreStepsOf}
 use Rattle.path_bound.specs.Turned.{task_of, IsGround, AreTurnedUpTo}
 use Rattle.path_bound.specs.Turning.{IsTaken}

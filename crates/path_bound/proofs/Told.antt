@@ -1,24 +1,23 @@
 -- The labels that are told are the labels without a limit, up to the limit; and the walks to which they lead cost so much.
-use Rattle.std.proofs.Common.{◌≡◌, ◌==◌, ◌&&◌, ◌||◌, ◌⊎◌, ℕ, zero, suc, ◌+◌, ◌<◌, ◌≤◌, inl, inr, Bool, true, false, not, Option, Some, None, List, [], ◌∷◌, length, take, get_or, cond, refl, sym, ap, subst, ◌∙◌, arith, ltb, Vec, Global, zero-add}
+use Rattle.std.proofs.Common.{◌≡◌, ◌==◌, ◌||◌, ◌⊎◌, ℕ, zero, suc, ◌+◌, ◌<◌, ◌≤◌, inl, inr, Bool, true, false, not, Option, Some, None, List, [], ◌∷◌, length, take, get_or, cond, refl, sym, ap, subst, ◌∙◌, arith, ltb, Vec, Global, zero-add}
 use Rattle.std.specs.Prelude.{min}
 use Rattle.std.proofs.lemmas.Bool.{ltb-true, ltb-false, lt-ltb}
 use Rattle.std.proofs.lemmas.Bool.Decides.{eqb_tells}
 use Rattle.bt_base.specs.Graph.{has, is_edge}
 use Rattle.graph_laws.specs.Walk.{IsWalk, AreInside, end_of}
-use Rattle.graph_laws.specs.Loops.{Loops, is_back, IsForward}
+use Rattle.graph_laws.specs.Loops.{is_back, IsForward}
 use Rattle.graph_laws.proofs.Nests.{two_true}
-use Rattle.graph_laws.proofs.Stretches.{tells}
 use Rattle.path_bound.specs.declared.choosing.Label.{Label}
 use Rattle.path_bound.specs.declared.stepping.Step.{Step}
 use Rattle.path_bound.specs.Capped.{limit, cap, exact}
 use Rattle.path_bound.specs.Steps.{step_to, moves, steps_at}
-use Rattle.path_bound.specs.Choosing.{label_at, is_end, behind, asked, greater, best_of, start_at, only, cost_of, next_of}
+use Rattle.path_bound.specs.Choosing.{label_at, is_end, behind, asked, greater, best_of, start_at, only, next_of}
 use Rattle.path_bound.specs.Exact.{Task, row_of, move_of, goes, labels_by, label_next}
-use Rattle.path_bound.specs.Ranked.{rank_in, IsOrder, IsForwardOrder}
+use Rattle.path_bound.specs.Ranked.{IsForwardOrder}
 use Rattle.path_bound.specs.Turning.{ArePassed, Leads, toll}
 use Rattle.path_bound.proofs.Best.{some_is, best_same, has_first, or_right}
 use Rattle.path_bound.proofs.Fixed.{goes_forward, goes_inside, label_fixed}
-use Rattle.path_bound.proofs.Labelled.{IsEnding, IsGoing, chosen_of}
+use Rattle.path_bound.proofs.Labelled.{IsEnding, chosen_of}
 
 -- a label has the cost of another up to the limit
 abbrev pub IsCapped : Option Label → Option Label → Type 0

@@ -3,11 +3,11 @@ use Rattle.std.proofs.Common.{◌≡◌, ◌≢◌, ◌==◌, ◌&&◌, ◌||◌
 use Rattle.std.specs.List.{slice_get}
 use Rattle.std.proofs.lemmas.Bool.{eq-eqb, cases_lt, ltb-true}
 use Rattle.std.proofs.lemmas.Bool.Decides.{eqb_tells}
-use Rattle.std.proofs.lemmas.List.{length-set, get_or-set_same, get_or-set_other, length-map}
-use Rattle.std.proofs.lemmas.Option.{slice_get-get_or, slice_get_past, slice_get_within}
+use Rattle.std.proofs.lemmas.List.{length-set, get_or-set_same, get_or-set_other}
+use Rattle.std.proofs.lemmas.Option.{slice_get-get_or, slice_get_past}
 use Rattle.bt_base.specs.Graph.{has, is_edge}
 use Rattle.graph_laws.specs.Walk.{IsWalk, AreInside, end_of}
-use Rattle.graph_laws.specs.Loops.{Loops, is_back, IsForward}
+use Rattle.graph_laws.specs.Loops.{is_back, IsForward}
 use Rattle.graph_laws.specs.Forward.{HasTurn}
 use Rattle.graph_laws.proofs.Nests.{neither}
 use Rattle.graph_laws.proofs.Stretches.{tells}
@@ -17,20 +17,19 @@ use Rattle.path_bound.specs.declared.choosing.Label.{Label}
 use Rattle.path_bound.specs.declared.long_walk.Turn.{Turn}
 use Rattle.path_bound.specs.declared.stepping.Step.{Step}
 use Rattle.path_bound.specs.Capped.{cap}
-use Rattle.path_bound.specs.Choosing.{label_at, is_end, cost_of, next_of}
-use Rattle.path_bound.specs.Exact.{Task, row_of, move_of, labels_by, laps_next, laps_of}
+use Rattle.path_bound.specs.Choosing.{label_at, is_end, cost_of}
+use Rattle.path_bound.specs.Exact.{Task, row_of, move_of, labels_by, laps_of}
 use Rattle.path_bound.specs.LongWalk.{rest_of}
-use Rattle.path_bound.specs.Places.{place_of, held, loops_in}
-use Rattle.path_bound.specs.Ranked.{rank_in, IsOrder, IsForwardOrder}
+use Rattle.path_bound.specs.Places.{place_of}
+use Rattle.path_bound.specs.Ranked.{rank_in, IsForwardOrder}
 use Rattle.path_bound.specs.Steps.{moves, steps_at}
 use Rattle.path_bound.specs.Turned.{size_of, IsGround, IsTurnOf, IsTurnAt, AreTurnedUpTo}
-use Rattle.path_bound.specs.Turning.{ArePassed, Leads, IsFollowed, toll, IsTaken}
+use Rattle.path_bound.specs.Turning.{ArePassed, IsFollowed, IsTaken}
 use Rattle.path_bound.proofs.Best.{IsLabel}
 use Rattle.path_bound.proofs.Final.{lap_capped, AreEven, toll_same}
 use Rattle.path_bound.proofs.Fixed.{laps_fixed}
 use Rattle.path_bound.proofs.Labelled.{going, ending}
-use Rattle.path_bound.proofs.Ordered.{rank_most, rank_taken, taken_rank, rank_within, place_in}
-use Rattle.path_bound.proofs.Placed.{IsLoopAt}
+use Rattle.path_bound.proofs.Ordered.{rank_most, rank_taken, taken_rank, place_in}
 use Rattle.path_bound.proofs.Told.{IsAt, IsCapped, told_capped, IsTrip, trip_of}
 
 some_eq : {A : Type 0} {x y : A} → Some x ≡ Some y → x ≡ y

@@ -1,5 +1,5 @@
 -- Labels of nodes, each the greatest of what its steps ask.
-use Rattle.std.specs.Prelude.{◌≡◌, ◌==◌, ℕ, ◌+◌, Bool, true, false, List, [], ◌∷◌, slice_index_or, Option, Some, None, if◌then◌else◌}
+use Rattle.std.specs.Prelude.{◌==◌, ℕ, ◌+◌, Bool, false, List, [], ◌∷◌, slice_index_or, Option, Some, None, if◌then◌else◌}
 use Rattle.std.specs.Prelude.{nat_lt}
 use Rattle.path_bound.specs.declared.choosing.Label.{Label}
 use Rattle.path_bound.specs.declared.stepping.Step.{Step}

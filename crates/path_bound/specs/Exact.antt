@@ -1,5 +1,5 @@
 -- The greatest costs of walks as they are, without a limit, as functions of a node.
-use Rattle.std.specs.Prelude.{◌≡◌, ◌&&◌, ℕ, zero, suc, ◌+◌, ◌-◌, ◌*◌, Bool, not, List, [], slice_index_or, Option, Some, None, if◌then◌else◌}
+use Rattle.std.specs.Prelude.{◌&&◌, ℕ, zero, suc, ◌+◌, ◌-◌, ◌*◌, Bool, not, List, [], slice_index_or, Option, Some, None, if◌then◌else◌}
 use Rattle.graph_laws.specs.Walk.{Costs}
 use Rattle.graph_laws.specs.Loops.{Loops, is_back}
 use Rattle.graph_laws.specs.Labels.{Labels}

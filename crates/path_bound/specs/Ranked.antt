@@ -1,5 +1,5 @@
 -- Orders of nodes in which each comes after those to which its edges lead, but for edges back.
-use Rattle.std.specs.Prelude.{◌≡◌, ◌==◌, ℕ, zero, suc, ◌<◌, ◌≤◌, Bool, true, false, List, [], ◌∷◌, length, take, slice_index, if◌then◌else◌}
+use Rattle.std.specs.Prelude.{◌≡◌, ◌==◌, ℕ, suc, ◌<◌, Bool, true, false, List, [], ◌∷◌, length, take, slice_index, if◌then◌else◌}
 use Rattle.bt_base.specs.Graph.{has}
 use Rattle.graph_laws.specs.Loops.{Loops, is_back}
 

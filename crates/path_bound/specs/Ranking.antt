@@ -1,5 +1,5 @@
 -- Nodes that are put into an order, those that wait, and for which.
-use Rattle.std.specs.Prelude.{◌≡◌, ◌==◌, ℕ, ◌<◌, ◌≤◌, ◌⊎◌, Bool, true, false, List, [], length, take, slice_get, slice_index, slice_index_or, Option, Some, None, Vec}
+use Rattle.std.specs.Prelude.{◌≡◌, ℕ, ◌<◌, ◌≤◌, ◌⊎◌, Bool, true, false, List, [], length, take, slice_get, slice_index, slice_index_or, Option, Some, None, Vec}
 use Rattle.std.specs.declared.alloc.Global.{Global}
 use Rattle.bt_base.specs.Graph.{has}
 use Rattle.graph_laws.specs.Loops.{Loops, is_back}

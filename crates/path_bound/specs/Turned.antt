@@ -1,8 +1,8 @@
 -- Turns of loops, from the inside outward.
-use Rattle.std.specs.Prelude.{◌≡◌, ◌==◌, ℕ, suc, ◌+◌, ◌-◌, ◌*◌, ◌<◌, ◌⊎◌, Bool, true, false, List, [], ◌∷◌, length, map, take, slice_get, slice_index, Option, Some, nat_lt}
+use Rattle.std.specs.Prelude.{◌≡◌, ℕ, suc, ◌+◌, ◌-◌, ◌*◌, ◌<◌, ◌⊎◌, true, false, List, ◌∷◌, length, map, take, slice_get, slice_index, Some, nat_lt}
 use Rattle.bt_base.specs.Graph.{has, is_edge}
 use Rattle.graph_laws.specs.Walk.{IsWalk, AreInside, end_of}
-use Rattle.graph_laws.specs.Loops.{Loops, is_back, IsForward}
+use Rattle.graph_laws.specs.Loops.{is_back, IsForward}
 use Rattle.graph_laws.specs.Forward.{HasTurn}
 use Rattle.loop_nest.specs.declared.natural_loop.Loop.{Loop}
 use Rattle.path_bound.specs.declared.long_walk.Turn.{Turn}

@@ -1,4 +1,4 @@
-use Rattle.std.proofs.Common.{◌≡◌, ◌+◌, ◌<◌, ℕ, Some, None, length, get_or, refl, sym, ap, ◌∙◌, arith}
+use Rattle.std.proofs.Common.{◌+◌, ◌<◌, ℕ, None, length, get_or, ap, ◌∙◌, arith}
 use Rattle.path_bound.specs.Capped.{cap}
 use Rattle.path_bound.proofs.Followed.{next_falls, next_there}
 use Rattle.path_bound.proofs.answering.answered.Goals as goal

@@ -1,4 +1,4 @@
-use Rattle.std.proofs.Common.{◌≡◌, ◌<◌, true, ℕ, List, length, get_or, sym, ap, ◌∙◌}
+use Rattle.std.proofs.Common.{ℕ, List, get_or, sym, ap, ◌∙◌}
 use Rattle.bt_base.specs.Graph.{has}
 use Rattle.loop_nest.proofs.Lists.{has_at}
 use Rattle.path_bound.proofs.blaming.is_innermost.Goals as goal

@@ -1,4 +1,4 @@
-use Rattle.std.proofs.Common.{◌≡◌, ◌<◌, ◌≤◌, ◌⊎◌, ℕ, false, Some, length}
+use Rattle.std.proofs.Common.{◌≡◌, ◌<◌, ◌≤◌, ℕ, false, Some, length}
 use Rattle.std.specs.List.{slice_get}
 use Rattle.bt_base.specs.Graph.{is_edge}
 use Rattle.loop_nest.specs.declared.natural_loop.Loop.{Loop}

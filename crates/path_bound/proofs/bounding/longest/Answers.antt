@@ -1,7 +1,7 @@
-use Rattle.std.proofs.Common.{◌≡◌, ◌<◌, ℕ, List, length, get_or, refl, sym, ap, subst, ◌∙◌, arith}
+use Rattle.std.proofs.Common.{◌≡◌, ◌<◌, ℕ, List, length, refl, sym, ap, subst, ◌∙◌}
 use Rattle.bt_base.specs.Graph.{is_edge}
 use Rattle.loop_nest.specs.declared.natural_loop.Loop.{Loop}
-use Rattle.path_bound.specs.Answered.{IsBest, IsOverOr}
+use Rattle.path_bound.specs.Answered.{IsOverOr}
 use Rattle.path_bound.specs.Places.{loops_in, AreLoopsBelow}
 use Rattle.path_bound.specs.Ranked.{rank_in}
 use Rattle.path_bound.specs.Ranking.{HaveEnds}
@@ -39,7 +39,7 @@ answered-requires-clause-placed c =
     c.in_ok-survey.survey.order.ok.0 (c.in_ok-survey.ensures {u = tt}) in
     subst (λ (l : List ℕ). rank_in l c.args.entry < length l) (sym c.deref-4.ensures.value) (entry_placed c.args.graph.now c.args.entry c.args.nest.now c.args.bounds.now c.args.costs.now c.count-count.ensures.graph c.requires.nest c.requires.reached c.requires.entry c.requires.bounds c.in_ok-survey.survey s)
 
-pub returns : goal.returns-in-Err
+pub returns : goal.returns
 returns c =
     let s : IsSurveyed c.args.graph.now c.args.nest.now c.args.bounds.now c.args.costs.now (length c.in_ok-survey.survey.order.items) c.in_ok-survey.survey =
     survey_told c.args.graph.now c.loops-loops.result.now c.args.nest.now c.args.bounds.now c.args.costs.now _ (length c.in_ok-survey.survey.order.items) c.in_ok-survey.survey c.loops-loops.ensures

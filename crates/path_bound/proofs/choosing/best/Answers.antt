@@ -1,4 +1,4 @@
-use Rattle.std.proofs.Common.{ℕ, drop, get_or, refl, sym, ap, ◌∙◌}
+use Rattle.std.proofs.Common.{get_or, refl, sym, ap, ◌∙◌}
 use Rattle.std.proofs.lemmas.List.{drop_all}
 use Rattle.path_bound.specs.Capped.{cap}
 use Rattle.path_bound.specs.Choosing.{label_at, greater, best_of}

@@ -1,4 +1,4 @@
-use Rattle.std.proofs.Common.{◌≡◌, ℕ, drop, get_or}
+use Rattle.std.proofs.Common.{◌≡◌, drop, get_or}
 use Rattle.path_bound.specs.Capped.{cap}
 use Rattle.path_bound.specs.Choosing.{label_at, best_of}
 use Rattle.path_bound.proofs.choosing.best.Given as goal

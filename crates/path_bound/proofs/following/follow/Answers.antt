@@ -1,4 +1,4 @@
-use Rattle.std.proofs.Common.{◌≡◌, ◌+◌, ◌<◌, ◌++◌, ◌∷◌, [], ℕ, Some, List, length, refl, sym, ap, subst, ◌∙◌, arith}
+use Rattle.std.proofs.Common.{◌≡◌, ◌+◌, ◌<◌, ◌++◌, ◌∷◌, [], ℕ, Some, List, length, sym, ap, subst, ◌∙◌, arith}
 use Rattle.path_bound.specs.Choosing.{label_at, next_of}
 use Rattle.path_bound.specs.Ranked.{rank_in}
 use Rattle.path_bound.proofs.Passed.{IsOnWay, way_begun, way_on, way_done}

@@ -1,7 +1,5 @@
-use Rattle.std.proofs.Common.{◌≡◌, ◌==◌, ◌||◌, ◌<◌, ℕ, length, get_or, arith, sym, ap, ◌∙◌}
-use Rattle.bt_base.specs.Graph.{has}
-use Rattle.loop_nest.proofs.Lists.{has_at, has_take_all}
-use Rattle.path_bound.specs.Choosing.{label_at}
+use Rattle.std.proofs.Common.{◌<◌, length, get_or, arith}
+use Rattle.loop_nest.proofs.Lists.{has_at}
 use Rattle.path_bound.proofs.Passed.{cleared_on}
 use Rattle.path_bound.proofs.passing.clear.Goals as goal
 

@@ -1,13 +1,12 @@
-use Rattle.std.proofs.Common.{◌≡◌, ◌&&◌, ◌<◌, ℕ, Bool, Option, Some, List, length, get_or, refl, sym, ap, subst, ◌∙◌, arith}
+use Rattle.std.proofs.Common.{◌≡◌, ◌&&◌, ℕ, Bool, Option, Some, List, length, sym, ap, subst, ◌∙◌}
 use Rattle.std.specs.List.{slice_get}
 use Rattle.std.proofs.lemmas.Option.{slice_get-get_or}
 use Rattle.std.specs.List.Sorted.{IsStrictlyIncreasing}
 use Rattle.bt_base.specs.Graph.{has}
 use Rattle.graph_laws.proofs.Rows.{found_is_there}
 use Rattle.loop_nest.specs.declared.natural_loop.Loop.{Loop}
-use Rattle.loop_nest.specs.LoopNest.{is_head}
-use Rattle.path_bound.specs.Places.{place_of, held, loops_in}
-use Rattle.path_bound.proofs.Placed.{below_some, back_some, back_none}
+use Rattle.path_bound.specs.Places.{held, loops_in}
+use Rattle.path_bound.proofs.Placed.{below_some, back_some}
 use Rattle.path_bound.proofs.placing.is_back.Goals as goal
 
 pub returns-in-Some : goal.returns-in-Some

@@ -1,7 +1,6 @@
-use Rattle.std.proofs.Common.{◌≡◌, ◌⊎◌, ◌==◌, ◌||◌, ◌-◌, ◌+◌, ◌<◌, ◌≤◌, ℕ, Bool, true, inl, inr, List, length, take, get_or, sym, ap, subst, ◌∙◌, arith}
-use Rattle.bt_base.specs.Graph.{has, is_edge}
+use Rattle.std.proofs.Common.{◌-◌, ◌<◌, length, take, get_or, arith}
+use Rattle.bt_base.specs.Graph.{has}
 use Rattle.loop_nest.proofs.Lists.{has_at}
-use Rattle.path_bound.specs.Places.{loops_in}
 use Rattle.path_bound.proofs.Rankings.{last_taken, grown_on}
 use Rattle.path_bound.proofs.ranking.advance_all.Goals as goal
 

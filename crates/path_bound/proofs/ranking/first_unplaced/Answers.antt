@@ -1,4 +1,4 @@
-use Rattle.std.proofs.Common.{◌≡◌, ◌<◌, ℕ, true, List, length, get_or, sym, ap, subst, ◌∙◌, arith}
+use Rattle.std.proofs.Common.{◌≡◌, ℕ, true, List, sym, ap, subst, ◌∙◌, arith}
 use Rattle.bt_base.specs.Graph.{has, is_edge}
 use Rattle.loop_nest.proofs.Lists.{IsPlace, place_of}
 use Rattle.path_bound.specs.Places.{loops_in}

@@ -1,4 +1,4 @@
-use Rattle.std.proofs.Common.{◌≡◌, ◌<◌, ℕ, get_or}
+use Rattle.std.proofs.Common.{◌<◌, ℕ, get_or}
 use Rattle.bt_base.specs.Graph.{is_edge}
 use Rattle.path_bound.specs.Places.{loops_in}
 use Rattle.path_bound.specs.Ranking.{IsUnplaced}

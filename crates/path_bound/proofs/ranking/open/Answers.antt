@@ -1,4 +1,4 @@
-use Rattle.std.proofs.Common.{◌≡◌, ◌<◌, ℕ, length, get_or, arith}
+use Rattle.std.proofs.Common.{◌<◌, length, get_or, arith}
 use Rattle.loop_nest.proofs.Lists.{has_at}
 use Rattle.path_bound.proofs.Rankings.{opened_on}
 use Rattle.path_bound.proofs.ranking.open.Goals as goal

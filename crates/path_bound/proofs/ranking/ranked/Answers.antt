@@ -1,4 +1,4 @@
-use Rattle.std.proofs.Common.{◌≡◌, ◌==◌, ◌||◌, ◌<◌, ◌≤◌, ◌+◌, ℕ, Bool, true, false, [], List, length, take, set, get_or, sym, ap, subst, ◌∙◌, arith, Vec, Global}
+use Rattle.std.proofs.Common.{◌≡◌, ◌==◌, ◌||◌, ◌<◌, ◌+◌, ℕ, true, false, List, length, take, set, get_or, sym, ap, subst, ◌∙◌, arith, Vec, Global}
 use Rattle.std.proofs.lemmas.Grind.{get_or_default_zero}
 use Rattle.bt_base.specs.Graph.{has, is_edge}
 use Rattle.loop_nest.proofs.Lists.{has_take_more, has_take_all, has_at}

@@ -1,4 +1,4 @@
-use Rattle.std.proofs.Common.{◌≡◌, ℕ, false, length, take}
+use Rattle.std.proofs.Common.{◌≡◌, false, length, take}
 use Rattle.bt_base.specs.Graph.{has, is_edge}
 use Rattle.path_bound.specs.Places.{loops_in}
 use Rattle.path_bound.specs.Ranking.{IsRanking}

@@ -1,8 +1,8 @@
-use Rattle.std.proofs.Common.{◌≡◌, ◌+◌, ℕ, List, add-zero, take, length, get_or, sym, ap, subst, ◌∙◌, arith}
+use Rattle.std.proofs.Common.{◌+◌, ℕ, List, add-zero, take, get_or, sym, ap}
 use Rattle.std.proofs.lemmas.List.{take_all}
 use Rattle.path_bound.specs.Capped.{cap}
 use Rattle.path_bound.specs.Places.{extra_at, extra_of}
-use Rattle.path_bound.proofs.Stepped.{steps_same, extra_more, one_extra}
+use Rattle.path_bound.proofs.Stepped.{steps_same, one_extra}
 use Rattle.path_bound.proofs.stepping.add_extras.Goals as goal
 
 pub loop-from-preserved : goal.loop-from-preserved

@@ -1,4 +1,4 @@
-use Rattle.std.proofs.Common.{◌≡◌, length, arith}
+use Rattle.std.proofs.Common.{arith}
 use Rattle.path_bound.proofs.Stepped.{plain_done}
 use Rattle.path_bound.proofs.stepping.plain_rows.Goals as goal
 

@@ -1,10 +1,9 @@
-use Rattle.std.proofs.Common.{◌≡◌, ◌+◌, ◌++◌, ℕ, List, Vec, Global, length, take, drop, get_or, sym, ap, subst, ◌∙◌, arith}
+use Rattle.std.proofs.Common.{◌≡◌, ◌+◌, ◌++◌, ℕ, List, Vec, Global, length, take, drop, get_or, sym, ap, subst, ◌∙◌}
 use Rattle.std.proofs.Math.Seq.{take-append_seam}
 use Rattle.path_bound.specs.declared.stepping.Step.{Step}
 use Rattle.path_bound.specs.Capped.{cap}
 use Rattle.path_bound.specs.Places.{extra_of, costs_in}
 use Rattle.path_bound.specs.Steps.{AreStepsOf}
-use Rattle.path_bound.proofs.Stepped.{steps_same}
 use Rattle.path_bound.proofs.stepping.steps_of.Goals as goal
 
 pub returns : goal.returns

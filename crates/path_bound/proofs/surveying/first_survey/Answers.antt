@@ -1,4 +1,4 @@
-use Rattle.std.proofs.Common.{◌≡◌, ◌<◌, ℕ, true, Option, None, List, Vec, Global, length, sym, ap, subst, ◌∙◌, arith}
+use Rattle.std.proofs.Common.{ℕ, Option, None, List, length, sym, ap, subst, ◌∙◌}
 use Rattle.std.proofs.lemmas.List.{length-replicate}
 use Rattle.bt_base.specs.Graph.{has, is_edge}
 use Rattle.path_bound.specs.declared.choosing.Label.{Label}

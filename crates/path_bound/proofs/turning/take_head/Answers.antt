@@ -1,4 +1,4 @@
-use Rattle.std.proofs.Common.{◌≡◌, ◌+◌, ◌<◌, ℕ, Some, List, length, get_or, sym, ap, subst, ◌∙◌, arith}
+use Rattle.std.proofs.Common.{ℕ, List, length, get_or, sym, subst, ◌∙◌, arith}
 use Rattle.bt_base.specs.Graph.{is_edge}
 use Rattle.loop_nest.proofs.Places.{on_ok}
 use Rattle.path_bound.specs.Places.{loops_in}

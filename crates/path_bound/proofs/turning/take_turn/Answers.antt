@@ -1,12 +1,10 @@
-use Rattle.std.proofs.Common.{◌≡◌, ◌-◌, ◌*◌, ◌<◌, ℕ, Some, List, length, set, get_or, refl, sym, ap, subst, ◌∙◌, arith}
+use Rattle.std.proofs.Common.{◌≡◌, ◌<◌, ℕ, Some, List, length, set, get_or, refl, sym, ap, subst, ◌∙◌, arith}
 use Rattle.std.specs.List.{slice_get}
 use Rattle.std.proofs.lemmas.Option.{slice_get-get_or}
 use Rattle.bt_base.specs.Graph.{has, is_edge}
 use Rattle.loop_nest.specs.declared.natural_loop.Loop.{Loop}
 use Rattle.path_bound.specs.declared.long_walk.Turn.{Turn}
-use Rattle.path_bound.specs.Capped.{cap}
 use Rattle.path_bound.specs.Places.{loops_in}
-use Rattle.path_bound.specs.Ranked.{rank_in}
 use Rattle.path_bound.specs.Turning.{IsTaken}
 use Rattle.path_bound.proofs.Bodies.{order_below, head_below, head_placed, labels_within, labels_fall, passed_order}
 use Rattle.path_bound.proofs.Placed.{some_one}

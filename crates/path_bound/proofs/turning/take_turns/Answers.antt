@@ -1,4 +1,4 @@
-use Rattle.std.proofs.Common.{◌≡◌, ◌<◌, ℕ, length, get_or, refl, sym, ap, subst, ◌∙◌, arith}
+use Rattle.std.proofs.Common.{◌≡◌, ℕ, length, get_or, refl, subst, ◌∙◌, arith}
 use Rattle.loop_nest.proofs.Lists.{has_at}
 use Rattle.path_bound.specs.Turned.{task_of, AreTurnedUpTo}
 use Rattle.path_bound.proofs.turning.take_turns.Goals as goal

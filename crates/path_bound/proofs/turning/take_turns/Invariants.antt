@@ -1,4 +1,4 @@
-use Rattle.std.proofs.Common.{◌≡◌, length}
+use Rattle.std.proofs.Common.{length}
 use Rattle.path_bound.specs.Ranking.{IsReady}
 use Rattle.path_bound.specs.Turned.{task_of, AreTurnedUpTo}
 use Rattle.path_bound.specs.Turning.{NoLabels, AreSized}
