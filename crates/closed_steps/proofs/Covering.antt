@@ -1,35 +1,32 @@
 -- Each step of a run shows what the law of the stack asks of the facts.
-use Rattle.std.proofs.Common.{◌≡◌, ℕ, Bool, true, false, List, [], ◌∷◌, Option, Some, None, Contains, IsTrue, refl, sym, ap, subst, ◌∙◌}
-use Rattle.std.specs.Prelude.{is_some}
-use Rattle.abs_state.specs.State.{State, is_state_over}
+use Rattle.std.proofs.Common.{◌≡◌, ℕ, true, false, List, ◌∷◌, refl, sym, subst}
 use Rattle.abs_state.specs.declared.key.Key.TheVariants as key
 use Rattle.abs_state.specs.declared.key.Place.{Place}
 use Rattle.assert_bind.proofs.StubLemmas.{stubs_those}
-use Rattle.assert_bind.specs.Binding.{stub, stubs}
-use Rattle.assert_bind.specs.declared.body.BoundAssertion.{BoundAssertion}
 use Rattle.call_effects.specs.Summary.{effects_of_stub, is_at_most}
 use Rattle.call_effects.specs.declared.summary.Summary.{Summary as Effects}
 use Rattle.flow_system.specs.State.{IsClosed}
-use Rattle.sparc_machine.specs.Frame.{Frame, Transfer, Stays, Calls, Returns, transfer_of}
+use Rattle.sparc_machine.specs.Frame.{Frame, Stays, Calls, Returns}
 use Rattle.sparc_machine.specs.declared.machine.Machine.{Machine}
-use Rattle.stack_laws.specs.Standing.{StackFacts, Stands, place_of, summary_in}
-use Rattle.stack_laws.specs.StepFacts.{GoesInside, GoesInto, GoesOut, StepFacts, pushed, IsTaken as Takes}
+use Rattle.stack_laws.specs.Standing.{waiting_place, Stands, place_of, summary_in}
+use Rattle.stack_laws.specs.StepFacts.{GoesInside, GoesInto, GoesOut, pushed, IsTaken as Takes}
 use Rattle.transfer_acts.specs.Program.{program_of}
 use Rattle.transfer_acts.specs.Reading.{is_stub}
 use Rattle.transfer_rules.proofs.Closing.{closed_calls, closed_has_gaps, closed_leads_on, closed_says, closed_starts}
 use Rattle.transfer_rules.proofs.FactKinds.{fitting}
+use Rattle.transfer_rules.specs.Closed.{IsTaken}
 use Rattle.transfer_rules.specs.Family.{Family, Program}
 use Rattle.transfer_rules.specs.Give.{Facts}
 use Rattle.transfer_rules.specs.Lawful.{rules_of}
+use Rattle.transfer_rules.specs.declared.act.Way.TheVariants.{Onward}
 use Rattle.transfer_rules.specs.declared.fact.Fact.TheVariants as fact
 use Rattle.transfer_values.specs.Family.{family}
 use Rattle.transfer_values.specs.Resolve.{widest}
-use Rattle.value_lattice.specs.Thresholds.{IsThresholds}
 use Rattle.closed_steps.proofs.Calling as calling
 use Rattle.closed_steps.proofs.Leading as leading
 use Rattle.closed_steps.proofs.Leading.{summary_is}
-use Rattle.closed_steps.proofs.Taking.{IsDone, done}
-use Rattle.closed_steps.specs.Graph.{Answers, AreGraphs, ClosedStatesCoverSteps, GraphsCoverSteps, IsBound}
+use Rattle.closed_steps.proofs.Taking.{done}
+use Rattle.closed_steps.specs.Graph.{Answers, ClosedStatesCoverSteps, GraphsCoverSteps}
 
 pub graphs_cover_steps : GraphsCoverSteps
 graphs_cover_steps image costs list eight y x bound graphs = record { inside = inside; into = into; entered = entered; out = out; stubs = graphs.stubs } where
@@ -59,7 +56,9 @@ graphs_cover_steps image costs list eight y x bound graphs = record { inside = i
       let d = done t image costs list eight y x bound (graphs.are (top ∷ rest)) invalid (Calls target address) top rest m next answers takes in
       let on = calling.on t image costs list eight y x bound invalid target address top rest m next answers takes d in
       calling.enters t image costs list eight y x bound invalid target address top rest m next answers takes d
-      (graphs.enters top (pushed target address next) rest (place_of (Calls target address) top m) d.step d.before d.after on.taken refl followed)
+      (graphs.enters top (pushed target address next) rest d.step d.before d.after
+      (subst (λ (r : Place). IsTaken (family t image list) (program_of image list eight (widest image list)) (y (top ∷ rest)) r d.step Onward d.before d.after)
+      (calling.waits t image costs list eight y x bound invalid target address top rest m next answers takes d) on.taken) followed)
 
   out : (invalid : ℕ) (top : Frame) (rest : List Frame) (m next : Machine) → Takes image costs list y x invalid Returns top rest m next
       → GoesOut image x top m next
@@ -99,8 +98,8 @@ closed_states_cover_steps t image costs list eight x bound thresholds closed =
       thresholds = λ stack. t;
       are = λ stack. thresholds;
       answers = λ stack. closed_answers t (family t image list) (program_of image list eight (widest image list)) x closed;
-      enters = λ F G rest p step before after is at followed.
-          closed_calls.enters t (family t image list) (program_of image list eight (widest image list)) x p G.sub step before after closed is at followed;
+      enters = λ F G rest step before after is followed.
+          closed_calls.enters t (family t image list) (program_of image list eight (widest image list)) x (waiting_place F G) G.sub step before after closed is refl followed;
       stubs = stubs_say;
     })
   where

@@ -109,23 +109,23 @@ module _
       pub frame : IsFrame F image first rest a f below
       pub lastly : last_of a ≡ i
       pub frames : AreFrames F image first rest callers below
-      pub belows : AreBelow F image costs first rest f callers below
+      pub belows : AreBelow F image costs first rest i f callers below
 
     on : (i : ℕ) (a : Activation) (callers : List Activation) → i ≤ last → these_at i ≡ a ∷ callers → IsOn i a callers
     on i a callers within are = by (frames_at image first rest i) refl
-        (subst (λ (l : List Activation). AreLinked F image costs first rest i l (frames_at image first rest i)) are (linked F image costs list x root first rest last join i within)) where
+        (subst (λ (l : List Activation). AreLinked F image costs first rest i l (frames_at image first rest i)) are (linked F image costs list x root first rest last (join.placed) i within)) where
           by : (frames : List Frame) → frames_at image first rest i ≡ frames → AreLinked F image costs first rest i (a ∷ callers) frames → IsOn i a callers
           by [] is l = elim l [ ]
           by (f ∷ below) is l = record { f = f; below = below; are = is; frame = l.0; lastly = l.1; frames = l.2; belows = l.3 }
 
     steps_at : (i : ℕ) → i < last → StepsTo image costs (at i) (at (suc i))
-    steps_at i within = let most = join.last_within in ((at_places image costs first rest (join.follows).runs).steps) i (omega arith)
+    steps_at i within = let most = (join.placed).last_within in ((at_places image costs first rest ((join.placed).follows).runs).steps) i (omega arith)
 
     frames_next : (i : ℕ) (frames : List Frame) (due : Transfer) → i < last → frames_at image first rest i ≡ frames → due_at image first rest i ≡ due
         → frames_at image first rest (suc i) ≡ frames_after due (at (suc i)) frames
     frames_next i frames due within are is =
-        let most = join.last_within in
-        ((at_places image costs first rest (join.follows).runs).frames) i (omega arith)
+        let most = (join.placed).last_within in
+        ((at_places image costs first rest ((join.placed).follows).runs).frames) i (omega arith)
         ∙ ap (λ (l : List Frame). frames_after (due_at image first rest i) (at (suc i)) l) are
         ∙ ap (λ (d : Transfer). frames_after d (at (suc i)) frames) is
 
@@ -133,15 +133,15 @@ module _
     node_there : (i c : ℕ) (f : Frame) (below : List Frame) (due : Transfer) → i ≤ last → frames_at image first rest i ≡ f ∷ below
         → due_at image first rest i ≡ due → standing_of F (f ∷ below) ≡ In c → is_some (F.facts c (key.Node (place_of due f (at i)))) ≡ true
     node_there i c f below due within are is context =
-        let here = followed F image costs list x root first rest last join i within in
+        let here = followed F image costs list x root first rest last (join.placed) i within in
         let holds = subst
-        (λ (l : List Frame). Holds image list (facts_of F x) x (window F image costs list x root first rest last join) (due_at image first rest i) l (at i))
+        (λ (l : List Frame). Holds image list (facts_of F x) x (window F image costs list x root first rest last (join.placed)) (due_at image first rest i) l (at i))
         are
         here.holds in
-        let clear = clear_of image costs list F x (join.filled) (window F image costs list x root first rest last join) (due_at image first rest i) f below (at i) c holds context in
+        let clear = clear_of image costs list F x ((join.placed).filled) (window F image costs list x root first rest last (join.placed)) (due_at image first rest i) f below (at i) c holds context in
         let there = subst (λ (d : Transfer). state_in (facts_of F x (f ∷ below) (key.Node (place_of d f (at i)))) ≡ Some (clear.stands).state) is (clear.stands).is in
         let fact = found (facts_of F x (f ∷ below) (key.Node (place_of due f (at i)))) (clear.stands).state there in
-        subst (λ (facts : Facts). is_some (facts (key.Node (place_of due f (at i)))) ≡ true) (facts_are image costs list F x join.filled (f ∷ below) c context) fact
+        subst (λ (facts : Facts). is_some (facts (key.Node (place_of due f (at i)))) ≡ true) (facts_are image costs list F x (join.placed).filled (f ∷ below) c context) fact
 
     -- a step that passes nothing over pays its node
     pays_node : (i c : ℕ) (f : Frame) (below : List Frame) (due : Transfer) → i < last → frames_at image first rest i ≡ f ∷ below
@@ -151,11 +151,11 @@ module _
         let cost = steps_cost image costs (at i) (at (suc i)) (steps_at i within) in
         let nothing : annulled_cost costs (code_instruction image (at i).pc) (at i).pc (at (suc i)).pc ≡ 0 =
         ap (λ (b : Bool). if b then cost_at costs Annulled else 0) none in
-        let own = ((join.filled).own) c (place_of due f (at i)) (node_there i c f below due (omega arith) are is context) in
+        let own = (((join.placed).filled).own) c (place_of due f (at i)) (node_there i c f below due (omega arith) are is context) in
         let e = cost.cycles in
         let n : own_cost costs (code_instruction image (at i).pc) ≤ ((F.family c).own).node ((run_of F image costs first rest).node c i) =
         subst (λ (k : ℕ). own_cost costs (code_instruction image (at i).pc) ≤ ((F.family c).own).node k)
-        (sym (node_is F image costs list x root first rest last join i c f below due are is))
+        (sym (node_is F image costs list x root first rest last (join.placed) i c f below due are is))
         own in
         omega (arith, e, nothing, n)
 
@@ -167,14 +167,14 @@ module _
         let stands : standing_of F (o.f ∷ o.below) ≡ In c = sym (o.frame).standing ∙ context in
         let p : Place = place_of Stays o.f (at i) in
         let q : Place = place_of (due_at image first rest (suc i)) o.f (at (suc i)) in
-        let step = follows_step F image costs list x root first rest last join i c o.f o.below Stays within o.are due stands in
+        let step = follows_step F image costs list x root first rest last (join.placed) i c o.f o.below Stays within o.are due stands in
         let edge : is_some (F.facts c (key.Edge p q)) ≡ true =
-        subst (λ (facts : Facts). is_some (facts (key.Edge p q)) ≡ true) (facts_are image costs list F x join.filled (o.f ∷ o.below) c stands) step in
-        let from_is = node_is F image costs list x root first rest last join i c o.f o.below Stays o.are due in
+        subst (λ (facts : Facts). is_some (facts (key.Edge p q)) ≡ true) (facts_are image costs list F x (join.placed).filled (o.f ∷ o.below) c stands) step in
+        let from_is = node_is F image costs list x root first rest last (join.placed) i c o.f o.below Stays o.are due in
         let after = frames_next i (o.f ∷ o.below) Stays within o.are due in
-        let to_is = node_is F image costs list x root first rest last join (suc i) c o.f o.below (due_at image first rest (suc i)) after refl in
-        let own = ((join.filled).own) c p (node_there i c o.f o.below Stays (omega arith) o.are due stands) in
-        let extra = ((join.filled).extra) c p q edge in
+        let to_is = node_is F image costs list x root first rest last (join.placed) (suc i) c o.f o.below (due_at image first rest (suc i)) after refl in
+        let own = (((join.placed).filled).own) c p (node_there i c o.f o.below Stays (omega arith) o.are due stands) in
+        let extra = (((join.placed).filled).extra) c p q edge in
         let cost = steps_cost image costs (at i) (at (suc i)) (steps_at i within) in
         let e = cost.cycles in
         let same : owed image costs (at (suc i)) ≡ pair_cost costs (loads (code_instruction image (at i).pc)) (code_instruction image (at (suc i)).pc) =
@@ -185,7 +185,7 @@ module _
           record {
             edge =
                 subst (λ (k : ℕ). (F.family c).edge k ((run_of F image costs first rest).node c (suc i)) ≡ true) (sym from_is)
-                (subst (λ (k : ℕ). (F.family c).edge (F.number c p) k ≡ true) (sym to_is) (((join.filled).edges) c p q edge));
+                (subst (λ (k : ℕ). (F.family c).edge (F.number c p) k ≡ true) (sym to_is) ((((join.placed).filled).edges) c p q edge));
             counts = ((join.counted).goes) i c a callers within move these context;
           },
           subst
@@ -206,17 +206,17 @@ module _
         → f.start.cwp ≡ (at i).cwp → F.sub d ≡ f.sub → (at i).pc ≡ f.sub → (at i).npc ≡ (f.sub + 4) % 2 ^ 32
         → IsEntered (F.family d) (run_of F image costs first rest) d i
     enters_at i d f below are due window_is sub pc npc =
-        let machine = ((running F image costs list x root first rest last join i).running).machine in
+        let machine = ((running F image costs list x root first rest last (join.placed) i).running).machine in
         let depth : depth_from f.start.cwp (at i).cwp ≡ 0 =
         ap (λ (w : ℕ). depth_from w (at i).cwp) window_is ∙ (depths.start) (at i).cwp machine.window in
         let place : place_of Stays f (at i) ≡ entry_of f.sub = λ j. record { sub = f.sub; pc = pc j; next = At (npc j); depth = depth j } in
-        let node = node_is F image costs list x root first rest last join i d f below Stays are due in
+        let node = node_is F image costs list x root first rest last (join.placed) i d f below Stays are due in
         let most = owed_most costs (at i).loaded (code_instruction image (at i).pc) in
-        let start = ((join.filled).start) d in
+        let start = (((join.placed).filled).start) d in
         let here : pair_cost costs all_registers (code_instruction image (at i).pc) ≡ pair_cost costs all_registers (code_instruction image (F.sub d)) =
         ap (λ (a : ℕ). pair_cost costs all_registers (code_instruction image a)) (pc ∙ sym sub) in
         record {
-          entry = node ∙ ap (λ (p : Place). F.number d p) (place ∙ ap (λ (a : ℕ). entry_of a) (sym sub)) ∙ ((join.filled).entry) d;
+          entry = node ∙ ap (λ (p : Place). F.number d p) (place ∙ ap (λ (a : ℕ). entry_of a) (sym sub)) ∙ (((join.placed).filled).entry) d;
           owed = omega (arith, most, start, here);
         }
 
@@ -227,19 +227,19 @@ module _
         let call = calls_by (due_at image first rest i) move in
         let target = call.0 in let address = call.1 in let due = call.2 in
         let stands : standing_of F (o.f ∷ o.below) ≡ In c = sym (o.frame).standing ∙ context in
-        let step = follows_step F image costs list x root first rest last join i c o.f o.below (Calls target address) within o.are due stands in
-        let called = called_there F image costs list x root first rest last join i c target address o.f o.below within o.are due stands in
-        let most = join.last_within in
+        let step = follows_step F image costs list x root first rest last (join.placed) i c o.f o.below (Calls target address) within o.are due stands in
+        let called = called_there F image costs list x root first rest last (join.placed) i c target address o.f o.below within o.are due stands in
+        let most = (join.placed).last_within in
         let G : Frame = pushed target address (at (suc i)) in
         let w : Place = waiting_place o.f G in
-        let node = node_is F image costs list x root first rest last join i c o.f o.below (Calls target address) o.are due
-        ∙ ap (λ (p : Place). F.number c p) (waits_there F image costs list x root first rest last join i target address o.f (omega arith) due) in
+        let node = node_is F image costs list x root first rest last (join.placed) i c o.f o.below (Calls target address) o.are due
+        ∙ ap (λ (p : Place). F.number c p) (waits_there F image costs list x root first rest last (join.placed) i target address o.f (omega arith) due) in
         let after = frames_next i (o.f ∷ o.below) (Calls target address) within o.are due in
         record {
           callee = F.follows c w;
-          leads = ap (λ (k : ℕ). (F.family c).leads k) node ∙ ((join.filled).leads) c w target called;
+          leads = ap (λ (k : ℕ). (F.family c).leads k) node ∙ (((join.placed).filled).leads) c w target called;
           enters = λ d leads.
-              enters_at (suc i) d G (o.f ∷ o.below) after step.3 refl (((join.filled).callee) c w target d called leads) step.1 step.2;
+              enters_at (suc i) d G (o.f ∷ o.below) after step.3 refl ((((join.placed).filled).callee) c w target d called leads) step.1 step.2;
           pays = pays_node i c o.f o.below (Calls target address) within o.are due stands step.4;
         }
 
@@ -249,13 +249,13 @@ module _
         let o = on i a callers (omega arith) these in
         let due = returns_by (due_at image first rest i) move in
         let stands : standing_of F (o.f ∷ o.below) ≡ In c = sym (o.frame).standing ∙ context in
-        let step = follows_step F image costs list x root first rest last join i c o.f o.below Returns within o.are due stands in
+        let step = follows_step F image costs list x root first rest last (join.placed) i c o.f o.below Returns within o.are due stands in
         pays_node i c o.f o.below Returns within o.are due stands step.3
 
     enters : (c : ℕ) → root_of F first ≡ In c → IsEntered (F.family c) (run_of F image costs first rest) c 0
     enters c is =
-        let begins = (join.follows).begins in
-        enters_at 0 c (root_frame first) [] refl refl refl (((join.filled).root_in) first.pc c is) refl
+        let begins = ((join.placed).follows).begins in
+        enters_at 0 c (root_frame first) [] refl refl refl ((((join.placed).filled).root_in) first.pc c is) refl
         (begins.npc ∙ ap (λ (a : ℕ). (a + 4) % 2 ^ 32) (sym begins.pc))
 
     -- what is known where a frame is popped behind which one in a context goes on
@@ -267,14 +267,14 @@ module _
     return_is : (i c : ℕ) (f g : Frame) (below : List Frame) → i < last → frames_at image first rest i ≡ f ∷ g ∷ below → due_at image first rest i ≡ Returns
         → standing_of F (g ∷ below) ≡ In c → IsReturn i c f g below
     return_is i c f g below within are due context =
-        let most = join.last_within in
-        let here = followed F image costs list x root first rest last join i (omega arith) in
+        let most = (join.placed).last_within in
+        let here = followed F image costs list x root first rest last (join.placed) i (omega arith) in
         let holds = subst
-        (λ (l : List Frame). Holds image list (facts_of F x) x (window F image costs list x root first rest last join) (due_at image first rest i) l (at i))
+        (λ (l : List Frame). Holds image list (facts_of F x) x (window F image costs list x root first rest last (join.placed)) (due_at image first rest i) l (at i))
         are
         here.holds in
-        let step = here.steps (omega arith) (λ j less. join.before j (omega arith)) f (g ∷ below) are in
-        let known = facts_are image costs list F x join.filled (g ∷ below) c context in
+        let step = here.steps (omega arith) (λ j less. (join.placed).before j (omega arith)) f (g ∷ below) are in
+        let known = facts_are image costs list F x (join.placed).filled (g ∷ below) c context in
         elim holds [
           | inl clear ↦
               (let way = subst
@@ -282,7 +282,7 @@ module _
               due
               (step.plain clear.plain) in
               record {
-                edge = subst (λ (facts : Facts). is_some (facts (key.Edge (waiting_place g f) (place_of Stays g (at (suc i))))) ≡ true) known way.1;
+                edge = subst (λ (facts : Facts). is_some (facts (key.Edge (waiting_place g f) (place_of Stays g (at (suc i))))) ≡ true) known (way.1).0;
                 still = way.2;
                 called = record {
                   there = subst (λ (facts : Facts). is_some (facts (key.Call (waiting_place g f) f.sub)) ≡ true) known ((clear.waiting).0).called;
@@ -304,7 +304,7 @@ module _
             subst (λ (l : List Frame). AreWaiting (facts_of F x) x f l lowest.start) rest_is
             (subst (λ (h : Frame). AreWaiting (facts_of F x) x h (under ∷ others) lowest.start) f_is waiting) in
             record {
-              edge = subst (λ (facts : Facts). is_some (facts (key.Edge (waiting_place g f) (place_of Stays g (at (suc i))))) ≡ true) known way.1;
+              edge = subst (λ (facts : Facts). is_some (facts (key.Edge (waiting_place g f) (place_of Stays g (at (suc i))))) ≡ true) known (way.1).0;
               still = way.2;
               called = record {
                 there = subst (λ (facts : Facts). is_some (facts (key.Call (waiting_place g f) f.sub)) ≡ true) known (wait.0).called;
@@ -313,8 +313,8 @@ module _
             }
         lowest_is step known (h ∷ inner) lowest under others same stub plain waiting =
             absurd
-            (above_is_free image costs list F x join.filled inner lowest under others
-            (stub_is_free image costs list F x join.filled lowest under others lowest.start stub waiting.0)
+            (above_is_free image costs list F x (join.placed).filled inner lowest under others
+            (stub_is_free image costs list F x (join.placed).filled lowest under others lowest.start stub waiting.0)
             c
             (subst (λ (l : List Frame). standing_of F l ≡ In c) (ap rest_of same) context))
 
@@ -331,7 +331,7 @@ module _
       due = returns_by (due_at image first rest i) move
 
       by : (below : List Frame) → frames_at image first rest i ≡ o.f ∷ below → AreFrames F image first rest (caller ∷ callers) below
-          → AreBelow F image costs first rest o.f (caller ∷ callers) below
+          → AreBelow F image costs first rest i o.f (caller ∷ callers) below
           → IsAlong (F.family c) (run_of F image costs first rest) c (last_of caller) (suc i)
           × ((run_of F image costs first rest).owed (suc i)
           ≤ ((F.family c).own).edge ((run_of F image costs first rest).node c (last_of caller)) ((run_of F image costs first rest).node c (suc i)))
@@ -342,15 +342,15 @@ module _
           let p : Place = waiting_place g o.f in
           let q : Place = place_of Stays g (at (suc i)) in
           let after = frames_next i (o.f ∷ g ∷ below) Returns within are due in
-          let from_is = belows.0 c in
-          let to_is = node_is F image costs list x root first rest last join (suc i) c g below Stays after back.still in
-          let extra = ((join.filled).extra) c p q back.edge in
+          let from_is = (belows.0).node c in
+          let to_is = node_is F image costs list x root first rest last (join.placed) (suc i) c g below Stays after back.still in
+          let extra = (((join.placed).filled).extra) c p q back.edge in
           let most = owed_most costs (at (suc i)).loaded (code_instruction image (at (suc i)).pc) in
           let owes : owed image costs (at (suc i)) ≤ ((F.family c).own).edge (F.number c p) (F.number c q) = omega (arith, extra, most) in (
             record {
               edge =
                   subst (λ (k : ℕ). (F.family c).edge k ((run_of F image costs first rest).node c (suc i)) ≡ true) (sym from_is)
-                  (subst (λ (k : ℕ). (F.family c).edge (F.number c p) k ≡ true) (sym to_is) (((join.filled).edges) c p q back.edge));
+                  (subst (λ (k : ℕ). (F.family c).edge (F.number c p) k ≡ true) (sym to_is) ((((join.placed).filled).edges) c p q back.edge));
               counts = ((join.counted).goes_on) i c popped caller callers within move these context;
             },
             subst (λ (k : ℕ). owed image costs (at (suc i)) ≤ ((F.family c).own).edge k ((run_of F image costs first rest).node c (suc i))) (sym from_is)
@@ -376,9 +376,9 @@ module _
           let back = return_is i c o.f g below within are due stands in
           let leads : F.follows c (waiting_place g o.f) ≡ Stub time =
           sym (ap (λ (s : Standing). follows_from F s (waiting_place g o.f)) stands) ∙ sym frame.standing ∙ is in
-          let asserted = ((join.filled).time) c (waiting_place g o.f) (o.f).sub time back.called leads in
-          let most = join.last_within in
-          let keeps = (join.follows).stubs (o.f).sub time asserted i o.f g below (omega arith) due are refl in
+          let asserted = (((join.placed).filled).time) c (waiting_place g o.f) (o.f).sub time back.called leads in
+          let most = (join.placed).last_within in
+          let keeps = ((join.placed).follows).stubs (o.f).sub time asserted i o.f g below (omega arith) due are refl in
           let spends = keeps.spends in
           let begun : (at popped.first).cycles ≡ (o.f).start.cycles = ap (λ (m : Machine). m.cycles) frame.start in
           omega (arith, spends, begun)

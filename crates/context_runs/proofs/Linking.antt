@@ -1,12 +1,12 @@
 -- Activations of a run in contexts are the frames of the machine's stack.
-use Rattle.std.proofs.Common.{◌≡◌, ℕ, suc, List, [], ◌∷◌, ◌++◌, Some, refl, ap, ◌∙◌}
+use Rattle.std.proofs.Common.{◌≡◌, ℕ, suc, ◌<◌, List, [], ◌∷◌, ◌++◌, Some, refl, sym, ap, subst, ◌∙◌, arith}
 use Rattle.std.specs.Prelude.{unwrap_or, Option}
 use Rattle.context_runs.specs.Contexts.{Contexts, follows_from, standing_of}
 use Rattle.context_runs.specs.Joined.{AreFrames, IsFrame, move_of, run_of}
 use Rattle.frame_laws.specs.Activation.{Activation, called_from, last_of, stack_after}
 use Rattle.frame_laws.specs.Context.{Standing, Free, Stub, In}
 use Rattle.graph_laws.specs.Walk.{end_of}
-use Rattle.sparc_machine.specs.Frame.{Frame, Transfer, Stays, Calls, Returns, frames_after, machine_at}
+use Rattle.sparc_machine.specs.Frame.{Frame, Transfer, Stays, Calls, Returns, due_at, frames_after, frames_at, machine_at}
 use Rattle.sparc_machine.specs.declared.machine.Machine.{Machine}
 use Rattle.stack_laws.specs.Standing.{waiting_place}
 use Rattle.stack_laws.specs.StepFacts.{pushed}
@@ -17,19 +17,33 @@ end_behind n [] place = refl
 end_behind n (m ∷ rest) place = end_behind m rest place
 
 module _ (F : Contexts) (image costs : List ℕ) (first : Machine) (rest : List Machine) where
-  -- each caller last stood where its frame waits
-  abbrev pub AreBelow : Frame → List Activation → List Frame → Type 0
-  AreBelow g [] [] = Unit {0}
-  AreBelow g (a ∷ callers) (f ∷ below) =
-      ((c : ℕ) → (run_of F image costs first rest).node c (last_of a) ≡ F.number c (waiting_place f g)) × AreBelow f callers below
-  AreBelow g [] (f ∷ below) = ⊥
-  AreBelow g (a ∷ callers) [] = ⊥
+  -- At a place a frame has waited since for the one that it called: it was on top there, at the program point where it waits,
+  -- and the machine behind is the one with which the other began.
+  pub record IsWaitingSince (place : ℕ) (f g : Frame) (below : List Frame) : Type 0 where
+    pub node : (c : ℕ) → (run_of F image costs first rest).node c place ≡ F.number c (waiting_place f g)
+    pub due : due_at image first rest place ≡ Calls g.sub g.caller
+    pub frames : frames_at image first rest place ≡ f ∷ below
+    pub start : machine_at image first rest (suc place) ≡ g.start
+
+  -- each caller below a frame has waited since its last place, which is before a place
+  abbrev pub AreBelow : ℕ → Frame → List Activation → List Frame → Type 0
+  AreBelow i g [] [] = Unit {0}
+  AreBelow i g (a ∷ callers) (f ∷ below) = IsWaitingSince (last_of a) f g below × (last_of a < i) × AreBelow i f callers below
+  AreBelow i g [] (f ∷ below) = ⊥
+  AreBelow i g (a ∷ callers) [] = ⊥
+
+  -- so it is later
+  below_later : (i : ℕ) (g : Frame) (callers : List Activation) (below : List Frame) → AreBelow i g callers below → AreBelow (suc i) g callers below
+  below_later i g [] [] are = tt
+  below_later i g (a ∷ callers) (f ∷ below) are = (are.0, (let less = are.1 in omega arith), below_later i f callers below are.2)
+  below_later i g [] (f ∷ below) are = elim are [ ]
+  below_later i g (a ∷ callers) [] are = elim are [ ]
 
   -- the activations at a place are the frames there
   abbrev pub AreLinked : ℕ → List Activation → List Frame → Type 0
   AreLinked i [] [] = Unit {0}
   AreLinked i (a ∷ callers) (f ∷ below) =
-      IsFrame F image first rest a f below × (last_of a ≡ i) × AreFrames F image first rest callers below × AreBelow f callers below
+      IsFrame F image first rest a f below × (last_of a ≡ i) × AreFrames F image first rest callers below × AreBelow i f callers below
   AreLinked i [] (f ∷ below) = ⊥
   AreLinked i (a ∷ callers) [] = ⊥
 
@@ -44,7 +58,8 @@ module _ (F : Contexts) (image costs : List ℕ) (first : Machine) (rest : List 
   abbrev pub ArePushes : ℕ → Transfer → List Frame → Type 0
   ArePushes i Stays frames = Unit {0}
   ArePushes i (Calls target address) [] = Unit {0}
-  ArePushes i (Calls target address) (f ∷ below) = IsPush i target address f below
+  ArePushes i (Calls target address) (f ∷ below) =
+      IsPush i target address f below × (due_at image first rest i ≡ Calls target address) × (frames_at image first rest i ≡ f ∷ below)
   ArePushes i Returns frames = Unit {0}
 
   abbrev next_frame : ℕ → ℕ → ℕ → Frame
@@ -63,26 +78,33 @@ module _ (F : Contexts) (image costs : List ℕ) (first : Machine) (rest : List 
       → AreLinked (suc i) (stack_after F.family (run_of F image costs first rest) (move_of due) i these) (frames_after due (machine_at image first rest (suc i)) frames)
   linked_after i Stays [] [] linked push = tt
   linked_after i Stays (a ∷ callers) (f ∷ below) linked push =
-      (record { standing = (linked.0).standing; start = (linked.0).start }, end_behind a.first a.later (suc i), linked.2, linked.3)
+      (record { standing = (linked.0).standing; start = (linked.0).start }, end_behind a.first a.later (suc i), linked.2, below_later i f callers below linked.3)
   linked_after i (Calls target address) [] [] linked push = tt
   linked_after i (Calls target address) (a ∷ callers) (f ∷ below) linked push = (
     record {
       standing =
           ap (λ (s : Standing). called_from F.family (run_of F image costs first rest) s i) (linked.0).standing
-          ∙ called_is i target address f below push (standing_of F (f ∷ below)) refl;
+          ∙ called_is i target address f below push.0 (standing_of F (f ∷ below)) refl;
       start = refl;
     },
     refl,
     (linked.0, linked.2),
-    (λ c. ap (λ (n : ℕ). (run_of F image costs first rest).node c n) linked.1 ∙ push.node c, linked.3),
-  )
+    (waiting_at (last_of a) linked.1, (let last = linked.1 in omega (arith, last)), below_later i f callers below linked.3),
+  ) where
+    waiting_at : (place : ℕ) → place ≡ i → IsWaitingSince place f (next_frame i target address) below
+    waiting_at place at = subst (λ (n : ℕ). IsWaitingSince n f (next_frame i target address) below) (sym at) (record {
+      node = (push.0).node;
+      due = push.1;
+      frames = push.2;
+      start = refl;
+    })
   linked_after i Returns [] [] linked push = tt
   linked_after i Returns (a ∷ []) (f ∷ []) linked push = tt
   linked_after i Returns (a ∷ b ∷ callers) (f ∷ g ∷ below) linked push = (
     record { standing = ((linked.2).0).standing; start = ((linked.2).0).start },
     end_behind b.first b.later (suc i),
     (linked.2).1,
-    (linked.3).1,
+    below_later i g callers below (linked.3).2,
   )
   linked_after i Returns (a ∷ []) (f ∷ g ∷ below) linked push = absurd linked.2
   linked_after i Returns (a ∷ b ∷ callers) (f ∷ []) linked push = absurd linked.2

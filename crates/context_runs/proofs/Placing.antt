@@ -7,7 +7,7 @@ use Rattle.abs_state.specs.declared.key.Place.{Place}
 use Rattle.assert_bind.specs.declared.body.BoundAssertion.{BoundAssertion}
 use Rattle.context_runs.proofs.Linking.{AreLinked, ArePushes, linked_after}
 use Rattle.context_runs.specs.Contexts.{AreFilled, Contexts, IsCalled, facts_by, facts_of, follows_from, standing_of}
-use Rattle.context_runs.specs.Joined.{IsJoinable, root_of, run_of, top_of}
+use Rattle.context_runs.specs.Joined.{IsPlaced, root_of, run_of, top_of}
 use Rattle.frame_laws.specs.Activation.{Activation, stack_at}
 use Rattle.frame_laws.specs.Context.{Standing, Free, Stub, In}
 use Rattle.sparc_machine.specs.Frame.{Frame, Transfer, Stays, Calls, Returns, due_at, frames_at, machine_at, root_frame}
@@ -81,7 +81,7 @@ module _
     (first : Machine)
     (rest : List Machine)
     (last : ℕ)
-    (join : IsJoinable F image costs list x root first rest last)
+    (join : IsPlaced F image costs list x root first rest last)
   where
     -- every place up to the last is followed
     abbrev pub window : ℕ
@@ -152,12 +152,15 @@ module _
     pushes i within Stays is frames are = tt
     pushes i within (Calls target address) is [] are = tt
     pushes i within (Calls target address) is (f ∷ below) are =
-        let most = join.last_within in
-        record {
-          node = λ c. node_is i c f below (Calls target address) are is ∙ ap (λ (p : Place). F.number c p) (waits_there i target address f (omega arith) is);
-          leads = λ c context.
-              ((join.filled).leads) c (waiting_place f (pushed target address (next i))) target (called_there i c target address f below within are is context);
-        }
+        let most = join.last_within in (
+          record {
+            node = λ c. node_is i c f below (Calls target address) are is ∙ ap (λ (p : Place). F.number c p) (waits_there i target address f (omega arith) is);
+            leads = λ c context.
+                ((join.filled).leads) c (waiting_place f (pushed target address (next i))) target (called_there i c target address f below within are is context);
+          },
+          is,
+          are,
+        )
     pushes i within Returns is frames are = tt
 
     abbrev these_at : ℕ → List Activation

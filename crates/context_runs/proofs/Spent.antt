@@ -50,15 +50,15 @@ module _
     -- where no frame is a stub's, none has a context's place for one
     not_timed : (f : Frame) (below : List Frame) (m : Machine) → ArePlain list (f ∷ below) → AreWaiting (facts_of F x) x f below m → (time : ℕ)
         → standing_of F (f ∷ below) ≡ Stub time → ⊥
-    not_timed f [] m plain waiting time is = ((join.filled).root_free) f.sub time is
+    not_timed f [] m plain waiting time is = (((join.placed).filled).root_free) f.sub time is
     not_timed f (g ∷ below) m plain waiting time is = by (standing_of F (g ∷ below)) refl is where
       by : (s : Standing) → standing_of F (g ∷ below) ≡ s → follows_from F s (waiting_place g f) ≡ Stub time → ⊥
       by Free here e = cc
       by (Stub other) here e = cc
       by (In c) here e =
           let there : is_some (F.facts c (key.Call (waiting_place g f) f.sub)) ≡ true =
-          subst (λ (facts : Facts). is_some (facts (key.Call (waiting_place g f) f.sub)) ≡ true) (facts_are image costs list F x join.filled (g ∷ below) c here) (waiting.0).called in
-          let asserted : stub list f.sub ≡ Some time = ((join.filled).time) c (waiting_place g f) f.sub time (record { there = there; into = refl }) e in
+          subst (λ (facts : Facts). is_some (facts (key.Call (waiting_place g f) f.sub)) ≡ true) (facts_are image costs list F x (join.placed).filled (g ∷ below) c here) (waiting.0).called in
+          let asserted : stub list f.sub ≡ Some time = (((join.placed).filled).time) c (waiting_place g f) f.sub time (record { there = there; into = refl }) e in
           both (is_stub list f.sub) (ap (λ (o : Option ℕ). is_some o) asserted) plain.0
 
     standing_not : (s : Standing) → ((time : ℕ) → s ≡ Stub time → ⊥) → is_timed s ≡ false
@@ -97,12 +97,12 @@ module _
         → HaveSpent F (machine_at image first rest i).cycles frames
     spend sound i within [] are plain = tt
     spend sound i within (f ∷ below) are plain =
-        let links = subst (λ (l : List Frame). AreLinked F image costs first rest i (these_at i) l) are (linked F image costs list x root first rest last join i within) in
+        let links = subst (λ (l : List Frame). AreLinked F image costs first rest i (these_at i) l) are (linked F image costs list x root first rest last (join.placed) i within) in
         let frames = frames_are i (these_at i) (f ∷ below) links in
-        let here = followed F image costs list x root first rest last join i within in
+        let here = followed F image costs list x root first rest last (join.placed) i within in
         let holds = subst
         (λ (l : List Frame).
-        Holds image list (facts_of F x) x (window F image costs list x root first rest last join) (due_at image first rest i) l (machine_at image first rest i))
+        Holds image list (facts_of F x) x (window F image costs list x root first rest last (join.placed)) (due_at image first rest i) l (machine_at image first rest i))
         are
         here.holds in
         let free : All (λ (a : Activation). is_timed a.standing ≡ false) (these_at i) = elim holds [
@@ -115,7 +115,7 @@ module _
     popped : (sound : IsSound F.family) (i : ℕ) → i < last → PoppedSpent F image first rest i
     popped sound i within f below c most due are stands bound =
         by (these_at i) refl
-        (subst (λ (l : List Frame). AreLinked F image costs first rest i (these_at i) l) are (linked F image costs list x root first rest last join i (omega arith)))
+        (subst (λ (l : List Frame). AreLinked F image costs first rest i (these_at i) l) are (linked F image costs list x root first rest last (join.placed) i (omega arith)))
       where
         by : (these : List Activation) → these_at i ≡ these → AreLinked F image costs first rest i these (f ∷ below)
             → (machine_at image first rest (suc i)).cycles ≤ f.start.cycles + most
@@ -130,7 +130,7 @@ runs_keep_contexts F image costs list x root first rest last sound join i within
   record {
     frames =
         frames_are F image costs list x root first rest last join i (these_at F image costs list x root first rest last join i) (frames_at image first rest i)
-        (linked F image costs list x root first rest last join i within);
+        (linked F image costs list x root first rest last (join.placed) i within);
     walk =
         frames_on_walks F.family (run_of F image costs first rest) (root_of F first) last sound (are_followed F image costs list x root first rest last join) i within;
     spend = λ plain. spend F image costs list x root first rest last join sound i within (frames_at image first rest i) refl plain;

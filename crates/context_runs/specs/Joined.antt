@@ -81,14 +81,18 @@ pub record AreCounted (F : Contexts) (image costs : List ℕ) (first : Machine) 
       → stack_at F.family (run_of F image costs first rest) (root_of F first) place ≡ popped ∷ caller ∷ below → caller.standing ≡ In c
       → Counts F image costs first rest c (last_of caller) (suc place)
 
--- what a run is asked: it may be followed over the facts of its frames' contexts, whose graphs are filled in, and what counts in
--- them counts
-pub record IsJoinable (F : Contexts) (image costs : List ℕ) (list : List BoundAssertion) (x : Facts) (root : ℕ) (first : Machine) (rest : List Machine)
+-- a run may be followed, up to a place, over the facts of its frames' contexts, whose graphs are filled in
+pub record IsPlaced (F : Contexts) (image costs : List ℕ) (list : List BoundAssertion) (x : Facts) (root : ℕ) (first : Machine) (rest : List Machine)
     (last : ℕ) : Type 0 where
   pub follows : IsFollowable image costs list (facts_of F x) x root first rest
   pub filled : AreFilled image costs list F
   pub last_within : last ≤ length rest
   pub before : IsBeforeGaps image list x first rest last
+
+-- and what counts in its frames counts
+pub record IsJoinable (F : Contexts) (image costs : List ℕ) (list : List BoundAssertion) (x : Facts) (root : ℕ) (first : Machine) (rest : List Machine)
+    (last : ℕ) : Type 0 where
+  pub placed : IsPlaced F image costs list x root first rest last
   pub counted : AreCounted F image costs first rest last
 
 -- no frame has spent more than the bound of its context

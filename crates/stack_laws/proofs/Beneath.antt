@@ -133,7 +133,7 @@ module _ (image costs : List ℕ) (list : List BoundAssertion) (y : StackFacts) 
             plain = λ plain. absurd (among list [] lowest (below ∷ rest) h.stub (subst (λ (l : List Frame). ArePlain list l) (sym are) plain));
             stub = λ is_one plain returns. (
               subst (λ (G : Frame). Lands x G next) (ap (head_of lowest) are) pop.lands,
-              subst (λ (l : List Frame). GoesBack y (head_of lowest l) (tail_of l) next) are pop.goes,
+              subst (λ (l : List Frame). GoesBack y x (head_of lowest l) (tail_of l) next) are pop.goes,
               pop.still,
             );
           };

@@ -176,7 +176,7 @@ module _ (image costs : List ℕ) (list : List BoundAssertion) (y : StackFacts) 
                 hanging = hanging.1;
                 high = high.2;
               });
-              followed = (record { skip = goes.skip; comes = goes.comes; pc = goes.pc; npc = goes.npc; window = goes.window }, on.edge, goes.still, goes.whole);
+              followed = (record { skip = goes.skip; comes = goes.comes; pc = goes.pc; npc = goes.npc; window = goes.window }, (on.edge, (waiting.0).kept), goes.still, goes.whole);
             }
 
       -- each step from a machine without a stub's frame
@@ -191,7 +191,7 @@ module _ (image costs : List ℕ) (list : List BoundAssertion) (y : StackFacts) 
   pub record IsPopped (lowest below : Frame) (rest : List Frame) (m next : Machine) : Type 0 where
     pub clear : IsClear image list y x invalid (transfer_of image m) below rest next
     pub lands : Lands x lowest next
-    pub goes : GoesBack y lowest (below ∷ rest) next
+    pub goes : GoesBack y x lowest (below ∷ rest) next
     pub still : transfer_of image m ≡ Stays
 
   pub popped : (lowest below : Frame) (rest : List Frame) (m next : Machine) → IsRunning image invalid (record { machine = m; due = Returns; frames = lowest ∷ below ∷ rest })
@@ -235,6 +235,6 @@ module _ (image costs : List ℕ) (list : List BoundAssertion) (y : StackFacts) 
           high = high.2;
         };
         lands = record { skip = false; comes = up.returns; pc = back.pc; npc = npc; window = back.window };
-        goes = goes.edge;
+        goes = (goes.edge, (wait.0).kept);
         still = on.due;
       }

@@ -105,6 +105,7 @@ module _
 
     followed_at : (i : ℕ) → i ≤ length rest → IsBeforeGaps image list x first rest i → IsFollowedAt image list y x invalid first rest i
     followed_at i within before = record {
+      running = (running i).running;
       holds = holds_at i within before;
       steps = λ less behind top below are.
           subst (λ (c : Config). IsStepFollowed image list y x (here i) c top below) (sym (next_is i less)) ((leads i less behind).followed top below are);

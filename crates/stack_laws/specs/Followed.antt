@@ -8,8 +8,9 @@ use Rattle.sparc_machine.specs.Frame.{Frame, Transfer, Stays, Calls, Returns, Co
 use Rattle.sparc_machine.specs.declared.machine.Machine.{Machine}
 use Rattle.sparc_runs.specs.High.{AreHigh}
 use Rattle.sparc_runs.specs.Meets.{KeepsStubs, sight_at}
+use Rattle.sparc_runs.specs.Running.{IsRunning}
 use Rattle.sparc_runs.specs.Sound.{AreBytes}
-use Rattle.stack_laws.specs.Standing.{AreHanging, AreWaiting, Stands, StackFacts, comes_back, behind_by, place_of, waiting_place, summary_in}
+use Rattle.stack_laws.specs.Standing.{AreHanging, AreWaiting, IsKept, Stands, StackFacts, comes_back, behind_by, place_of, waiting_place, summary_in}
 use Rattle.stack_laws.specs.StepFacts.{AreEntered, ArePlain, PassesNothingOver, HasNoGap, StepFacts, is_stub}
 use Rattle.transfer_rules.specs.Give.{Facts}
 
@@ -50,10 +51,11 @@ pub record Lands (x : Facts) (G : Frame) (next : Machine) : Type 0 where
   pub npc : next.npc ≡ (G.caller + behind_by skip + 4) % 2 ^ 32
   pub window : next.cwp ≡ G.start.cwp
 
--- and goes on along an edge from where the caller waited, if there is a caller
-abbrev pub GoesBack : StackFacts → Frame → List Frame → Machine → Type 0
-GoesBack y G [] next = Unit {0}
-GoesBack y G (F ∷ rest) next = is_some (y (F ∷ rest) (key.Edge (waiting_place F G) (place_of Stays F next))) ≡ true
+-- And it goes on along an edge from where the caller waited, if there is a caller, whose other cells hold there what they held
+-- when the frame was pushed.
+abbrev pub GoesBack : StackFacts → Facts → Frame → List Frame → Machine → Type 0
+GoesBack y x G [] next = Unit {0}
+GoesBack y x G (F ∷ rest) next = (is_some (y (F ∷ rest) (key.Edge (waiting_place F G) (place_of Stays F next))) ≡ true) × IsKept x F G next
 
 -- How a step is followed: along an edge, by a call, or back behind one. The delay instruction of a call or a return passes
 -- nothing over.
@@ -62,14 +64,14 @@ IsFollowed image y x Stays after top rest m next = is_some (y (top ∷ rest) (ke
 IsFollowed image y x (Calls target address) after top rest m next =
     (is_some (y (top ∷ rest) (key.Call (place_of (Calls target address) top m) target)) ≡ true)
     × (next.pc ≡ target) × (next.npc ≡ (target + 4) % 2 ^ 32) × (after ≡ Stays) × PassesNothingOver image m next
-IsFollowed image y x Returns after top rest m next = Lands x top next × GoesBack y top rest next × (after ≡ Stays) × PassesNothingOver image m next
+IsFollowed image y x Returns after top rest m next = Lands x top next × GoesBack y x top rest next × (after ≡ Stays) × PassesNothingOver image m next
 
 -- so is each step from a machine without a stub's frame; of a step in a stub's frame only this is said, that where it
 -- pops the lowest one it goes back
 pub record IsStepFollowed (image : List ℕ) (list : List BoundAssertion) (y : StackFacts) (x : Facts) (c next : Config) (top : Frame) (rest : List Frame) : Type 0 where
   pub plain : ArePlain list (top ∷ rest) → IsFollowed image y x c.due next.due top rest c.machine next.machine
   pub stub : is_stub list top.sub ≡ true → ArePlain list rest → c.due ≡ Returns
-      → Lands x top next.machine × GoesBack y top rest next.machine × (next.due ≡ Stays)
+      → Lands x top next.machine × GoesBack y x top rest next.machine × (next.due ≡ Stays)
 
 -- no machine of a run before a place stands at a gap in a frame that is looked into
 abbrev pub IsBeforeGaps : List ℕ → List BoundAssertion → Facts → Machine → List Machine → ℕ → Type 0
@@ -96,6 +98,7 @@ pub record IsFollowable (image costs : List ℕ) (list : List BoundAssertion) (y
 -- what holds at a place, and of the step from it
 pub record IsFollowedAt (image : List ℕ) (list : List BoundAssertion) (y : StackFacts) (x : Facts) (invalid : ℕ) (first : Machine) (rest : List Machine)
     (i : ℕ) : Type 0 where
+  pub running : IsRunning image invalid (config_at image first rest i)
   pub holds : Holds image list y x invalid (config_at image first rest i).due (config_at image first rest i).frames (machine_at image first rest i)
   pub steps : i < length rest → IsBeforeGaps image list x first rest (suc i) → (top : Frame) (below : List Frame)
       → (config_at image first rest i).frames ≡ top ∷ below

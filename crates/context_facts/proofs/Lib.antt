@@ -1,0 +1,3 @@
+pub mod OwnPieces
+pub mod Least
+pub mod Answering

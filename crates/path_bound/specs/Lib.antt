@@ -1,0 +1,13 @@
+pub mod Answered
+pub mod Blamed
+pub mod Capped
+pub mod Choosing
+pub mod Exact
+pub mod LongWalk
+pub mod Places
+pub mod Ranked
+pub mod Ranking
+pub mod Steps
+pub mod Surveyed
+pub mod Turned
+pub mod Turning
