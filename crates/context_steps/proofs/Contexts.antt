@@ -49,7 +49,7 @@ use Rattle.context_steps.specs.Followed.{AreContexts, ContextsCoverSteps, Contex
 
 module _ (t image : List ℕ) (list : List BoundAssertion) (eight : Bool) (x : Facts) (F : Contexts) (bound : IsBound image list) (thresholds : IsThresholds t) (closed : IsClosed (rules_of t (family t image list) (program_of image list eight (widest image list))) x) (contexts : AreContexts image list eight t x F) where
   -- how a frame stands is in one of the contexts, if in any
-  abbrev Exists : Standing → Type 0
+  abbrev pub Exists : Standing → Type 0
   Exists Free = Unit {0}
   Exists (Stub time) = Unit {0}
   Exists (In c) = contexts.has c ≡ true
@@ -66,7 +66,7 @@ module _ (t image : List ℕ) (list : List BoundAssertion) (eight : Bool) (x : F
   next_exists (In c) p has (Stub time) is = tt
   next_exists (In c) p has (In d) is = contexts.follows c d p has is
 
-  stack_exists : (stack : List Frame) → Exists (standing_of F stack)
+  pub stack_exists : (stack : List Frame) → Exists (standing_of F stack)
   stack_exists [] = tt
   stack_exists (root ∷ []) = root_exists root.sub (F.roots root.sub) refl
   stack_exists (callee ∷ frame ∷ rest) =
