@@ -360,6 +360,13 @@ impl<S: System> Core<S> {
         &self.facts
     }
 
+    /// How many of the facts' keys may be counted ones.
+    pub fn limit(&self) -> u64
+        ensures { result ≡ self.now.limit }
+    {
+        self.limit
+    }
+
     /// The facts of an idle core; Err, with the core as it was, exactly where it isn't idle.
     pub fn close(self) -> Result<Closed<S>, Core<S>>
         ensures closed { IfOk result (λ closed. IsIdle S.Key.cmp self × (closed ≡ self.facts)) }

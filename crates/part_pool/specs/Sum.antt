@@ -16,14 +16,14 @@ module _ {K V : Type 0} (cmp : K → K → Ordering) (m : Rules K V) where
   pub record IsSum (parts : List (PartState K V)) (s : K → Option V) : Type 0 where
     pub fit : AllFit m s
     pub starts : ContainsAll m s m.starts
-    pub parts : ContainsParts parts s
+    pub each : ContainsParts parts s
     pub least : (t : K → Option V) → AllFit m t → ContainsAll m t m.starts → ContainsParts parts t → IsBelow m s t
 
   -- the new facts are the least that contain the old ones and those of a part
   pub record AddsPart (part old new : List (K × V)) : Type 0 where
     pub fit : AllFit m (fact_at cmp new)
     pub below : IsBelow m (fact_at cmp old) (fact_at cmp new)
-    pub part : IsBelow m (fact_at cmp part) (fact_at cmp new)
+    pub added : IsBelow m (fact_at cmp part) (fact_at cmp new)
     pub least : (t : K → Option V) → AllFit m t → IsBelow m (fact_at cmp old) t → IsBelow m (fact_at cmp part) t → IsBelow m (fact_at cmp new) t
 
 module _ {K V : Type 0} (cmp : K → K → Ordering) where

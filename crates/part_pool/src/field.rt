@@ -7,7 +7,7 @@ use crate::part::Part;
 use crate::pieces::copy_pieces;
 use bt_base::Want;
 use edge_publish::{About, Board};
-use flow_core::Core;
+use flow_core::{Core, GrowRefusal};
 use flow_system::{Facts, Name, PARTS, Parted, System};
 use shard_slots::{ShardSeat, Shards};
 use std::alloc::Global;
@@ -102,7 +102,8 @@ fn begin_key<S: Parted, N: Name<S::Key, S::Val>>(
     let pieces = copy_pieces(alloc, system, facts, &keys)?;
     match part.begin(alloc, system, &pieces, k) {
         Ok(_) => Ok(()),
-        Err(_) => Err(Want),
+        Err(GrowRefusal::Want) => Err(Want),
+        Err(GrowRefusal::Nodes { count: _ }) => unreachable!(),
     }
 }
 
@@ -114,14 +115,13 @@ impl<'a, S: Parted, N: Name<S::Key, S::Val>> Field<'a, S, N> {
         core: Core<S>,
         system: &S,
         board: &'a Board<S::Key, DueKeys<S::Val, N>>,
-        limit: u64,
     ) -> Result<(Field<'a, S, N>, ShardSeat<Part<S, N>>), Want>
         requires named { S.rules system.now ≡ N.rules }
         requires good { IsGood S.Key.cmp N.rules core }
         requires limit { core.limit ≡ N.limit }
-        requires known { limit ≡ N.limit }
         ensures seat { IfOk result (λ made. made.1 ≡ record { of = made.0; held = []; weight = 128 }) }
     {
+        let limit = core.limit();
         let keys = core.facts().keys(alloc)?;
         let mut parts = Vec::new(alloc);
         for number in 0..PARTS {
@@ -137,5 +137,17 @@ impl<'a, S: Parted, N: Name<S::Key, S::Val>> Field<'a, S, N> {
             },
             seat,
         ))
+    }
+
+    /// The parts, shared no more.
+    pub(crate) fn into_shards(self) -> Shards<Part<S, N>>
+        ensures { result ≡ self.entry }
+    {
+        let Field {
+            shards,
+            board: _,
+            limit: _,
+        } = self;
+        shards
     }
 }

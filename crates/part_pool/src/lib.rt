@@ -3,9 +3,9 @@
 #![tactic(auto)]
 
 mod field;
-mod grow;
+mod growing;
 mod handing;
-mod labour;
+mod labouring;
 mod mail;
 mod part;
 mod pieces;
@@ -13,7 +13,7 @@ mod sum;
 mod telling;
 
 pub use field::{DueKeys, Field};
-pub use grow::{grow, grow_on};
-pub use labour::labour;
+pub use growing::{grow, grow_on, publish_starts};
+pub use labouring::labour;
 pub use part::Part;
 pub use sum::{gather, sum_of};

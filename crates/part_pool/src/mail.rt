@@ -70,12 +70,20 @@ impl<K: Ord + Copy> Mail<K> {
     }
 
     /// Notes that a part reads an own key.
-    pub fn add_reader(&mut self, part: u32, key: K) -> Result<(), Want> {
+    fn add_reader(&mut self, part: u32, key: K) -> Result<(), Want> {
         let before = match self.readers.get(key) {
             Some(parts) => *parts,
             None => 0,
         };
         self.readers.put(key, before | 1 << (part % PARTS))?;
+        Ok(())
+    }
+
+    /// Notes that a part reads these own keys.
+    pub fn add_readers(&mut self, part: u32, keys: &[K]) -> Result<(), Want> {
+        for k in keys {
+            self.add_reader(part, *k)?;
+        }
         Ok(())
     }
 

@@ -238,9 +238,6 @@ impl<S: Parted, N: Name<S::Key, S::Val>> Part<S, N> {
     pub(crate) fn add_readers(&mut self, part: u32, keys: &[S::Key]) -> Result<(), Want>
         ensures { self.new ≡ self.old }
     {
-        for k in keys {
-            self.mail.add_reader(part, *k)?;
-        }
-        Ok(())
+        self.mail.add_readers(part, keys)
     }
 }

@@ -82,11 +82,7 @@ pub fn gather<S: Parted, N: Name<S::Key, S::Val>>(
     ensures limit { IfOk result (λ core. core.limit ≡ N.limit) }
     ensures nodes { IfErr result (IsTooBig S.Key.cmp N.rules N.limit) }
 {
-    let Field {
-        shards,
-        board: _,
-        limit,
-    } = field;
-    let parts = shards.close(seat);
+    let limit = field.limit;
+    let parts = field.into_shards().close(seat);
     sum_of(alloc, system, &parts, limit)
 }

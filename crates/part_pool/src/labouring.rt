@@ -121,9 +121,7 @@ fn tend<R: Wait, S: Parted, N: Name<S::Key, S::Val>, G: Gate>(
     ensures seat { seat.new ≡ seat.old }
     ensures too_big { IfErr result (IsTooBig S.Key.cmp N.rules N.limit) }
 {
-    let mut grew = work_part(
-        rt, alloc, system, field.board, part, worker, number, gate,
-    )?;
+    let mut grew = work_part(rt, alloc, system, field.board, part, worker, number, gate)?;
     for m in 0..PARTS {
         if m != n && part.has_mail(m) {
             if meet(rt, alloc, field, seat, system, part, n, m)? {

@@ -6,7 +6,7 @@ ghost use Rattle.flow_system.specs.Facts.{fact_at};
 ghost use Rattle.flow_system.specs.State.{IsDueGraph};
 
 use crate::field::{DueKeys, Field};
-use crate::labour::labour;
+use crate::labouring::labour;
 use crate::part::Part;
 use crate::sum::gather;
 use crate::telling::publish;
@@ -70,8 +70,8 @@ where
     (seat, low.and(high))
 }
 
-/// Puts the keys of the start pieces on a board.
-fn publish_starts<R: Wait, S: Parted, N: Name<S::Key, S::Val>>(
+/// Puts the keys of the start pieces on a board, since `labour` doesn't find these new.
+pub fn publish_starts<R: Wait, S: Parted, N: Name<S::Key, S::Val>>(
     rt: &R,
     alloc: Global,
     system: &S,
@@ -112,7 +112,7 @@ where
 {
     publish_starts(rt, alloc, system, board)?;
     let core = Core::new(alloc, system, NODE_LIMIT)?;
-    let (field, seat) = Field::new(alloc, core, system, board, NODE_LIMIT)?;
+    let (field, seat) = Field::new(alloc, core, system, board)?;
     let (seat, done) = labour_all(rt, alloc, &field, seat, system, 0, workers, gate);
     done?;
     let grown = gather(alloc, field, seat, system)?;

@@ -1,0 +1,54 @@
+-- Pieces at keys are pieces of the facts, so they fit and are due as these do.
+use Rattle.std.proofs.Common.{◌≡◌, ℕ, ◌<◌, List, [], ◌∷◌, Option, Some, None, Ordering, IsSome, IsTrue, Contains, refl, sym, ap, ◌∙◌, subst, arith}
+use Rattle.std.proofs.Common.{zero, suc}
+use Rattle.std.specs.List.{flat_map}
+use Rattle.std.specs.Map.{keys_of}
+use Rattle.flow_system.specs.Facts.{fact_at}
+use Rattle.flow_system.specs.Laws.{IsLawful}
+use Rattle.flow_system.specs.Rules.{Rules}
+use Rattle.flow_system.specs.State.{AllFit, ContainsAll, IsBelow, AllDue, HoldsDue}
+use Rattle.flow_core.specs.Staged.{PiecesFit}
+use Rattle.flow_core.proofs.QueueLemmas.{some_when}
+use Rattle.flow_core.proofs.StateLemmas.{below_itself}
+use Rattle.flow_core.proofs.WritingLemmas.{flat_from, flat_listed, key_listed}
+use Rattle.part_pool.specs.Pieces.{piece_of, pieces_at}
+
+contains_one : {X : Type 0} (x y : X) → Contains (x ∷ []) y → x ≡ y
+contains_one x y (zero, below, is) = is
+contains_one x y (suc i, below, is) = absurd (omega arith)
+
+module _ {K V : Type 0} where
+  piece_is : (k q : K) (v : V) (o : Option V) → Contains (piece_of k o) (q, v) → (k ≡ q) × (o ≡ Some v)
+  piece_is k q v None listed = absurd (omega (arith, listed.1))
+  piece_is k q v (Some w) listed =
+      let is : (k, w) ≡ (q, v) = contains_one (k, w) (q, v) listed in (ap (λ (p : K × V). p.0) is, ap (λ (p : K × V). Some p.1) is)
+
+  module _ (cmp : K → K → Ordering) (facts : List (K × V)) (keys : List K) where
+    pub piece_stands : (k : K) (v : V) → Contains (pieces_at cmp facts keys) (k, v) → fact_at cmp facts k ≡ Some v
+    piece_stands k v listed =
+        let from = flat_from (λ (q : K). piece_of q (fact_at cmp facts q)) keys (k, v) listed in
+        let is = piece_is from.one k v (fact_at cmp facts from.one) from.inner in
+        subst (λ q. fact_at cmp facts q ≡ Some v) is.0 is.1
+
+    pub piece_listed : (k : K) (v : V) → Contains keys k → fact_at cmp facts k ≡ Some v → Contains (pieces_at cmp facts keys) (k, v)
+    piece_listed k v listed found = flat_listed (λ (q : K). piece_of q (fact_at cmp facts q)) keys k (k, v) listed
+        (subst (λ o. Contains (piece_of k o) (k, v)) (sym found) (zero, omega arith, refl))
+
+    module _ (m : Rules K V) where
+      pub pieces_fit : AllFit m (fact_at cmp facts) → PiecesFit m (pieces_at cmp facts keys)
+      pieces_fit fit k v listed = fit k v (piece_stands k v listed)
+
+      pub pieces_due : HoldsDue m (fact_at cmp facts) → AllDue m (pieces_at cmp facts keys)
+      pieces_due due k v listed = due k v (piece_stands k v listed)
+
+      pub pieces_contained : (s : K → Option V) → IsBelow m (fact_at cmp facts) s → ContainsAll m s (pieces_at cmp facts keys)
+      pieces_contained s below k v listed = below k v (piece_stands k v listed)
+
+      pub pieces_stand : IsLawful cmp m → AllFit m (fact_at cmp facts) → ContainsAll m (fact_at cmp facts) (pieces_at cmp facts keys)
+      pieces_stand law fit = pieces_contained (fact_at cmp facts) (below_itself cmp m law (fact_at cmp facts) fit)
+
+  -- a state that contains the pieces at all keys contains the facts
+  pub all_contained : (cmp : K → K → Ordering) (m : Rules K V) → IsLawful cmp m → (facts : List (K × V)) (s : K → Option V)
+      → ContainsAll m s (pieces_at cmp facts (keys_of facts)) → IsBelow m (fact_at cmp facts) s
+  all_contained cmp m law facts s has k v found = has k v
+      (piece_listed cmp facts (keys_of facts) k v (key_listed cmp law.keys facts k (some_when (fact_at cmp facts k) v found)) found)
