@@ -1,14 +1,18 @@
 -- Sums of parts: each join adds one part's facts, and all keys stay pending.
-use Rattle.std.proofs.Common.{◌≡◌, ℕ, ◌<◌, Bool, true, false, List, [], ◌∷◌, ◌++◌, Option, Some, None, Ordering, IsSome, IsTrue, Contains, refl, sym, ap, ◌∙◌}
+use Rattle.std.proofs.Common.{◌≡◌, ℕ, ◌<◌, Bool, true, false, List, [], ◌∷◌, ◌++◌, Option, Some, None, Ordering, IsSome, IsTrue, Contains, refl, sym, ap, ◌∙◌, Result, Ok, Err}
 use Rattle.std.proofs.Common.{subst, arith, ⊎_elim}
 use Rattle.std.proofs.lemmas.List.Elements.{Contains-append_left, Contains-push, Contains-push_cases}
 use Rattle.std.specs.Map.{keys_of}
+use Rattle.std.specs.Prelude.{IfErr, IfOk}
 use Rattle.flow_system.specs.Facts.{fact_at}
 use Rattle.flow_system.specs.Laws.{IsLawful}
 use Rattle.flow_system.specs.Rules.{Rules}
 use Rattle.flow_system.specs.State.{AllFit, ContainsAll, IsBelow}
 use Rattle.flow_core.specs.Absorb.{Absorbs}
 use Rattle.flow_core.specs.Core.{CoreState, IsKey, IsPending, IsPart, IsGood, Joins, has_grown, pending}
+use Rattle.flow_core.specs.Refusal.{IsPassing, IsTooBig}
+use Rattle.flow_core.specs.declared.refusals.GrowRefusal.{GrowRefusal}
+use Rattle.flow_core.specs.declared.refusals.GrowRefusal.TheVariants.{Nodes, Want}
 use Rattle.flow_core.proofs.QueueLemmas.{some_when, some_from_IsSome}
 use Rattle.flow_core.proofs.StateLemmas.{all_onward, below_onward, starts_fit}
 use Rattle.part_pool.specs.Part.{PartState}
@@ -73,3 +77,15 @@ module _ {K V : Type 0} (cmp : K → K → Ordering) (m : Rules K V) (law : IsLa
   -- a sum whose keys are all pending is good
   pub sum_good : (parts : List (PartState K V)) (s : CoreState K V) → IsPart cmp m s → IsSum cmp m parts (fact_at cmp s.facts) → AllPending cmp s → IsGood cmp m s
   sum_good parts s part sum all = record { part = part; starts = sum.starts; settled = λ k key. pending (all k key) }
+
+  -- where the start pieces would pass the limit, so would each closed state
+  pub starts_too_big : {A : Type 0} (limit : ℕ) (r : Result A GrowRefusal) → IfErr r (IsPassing cmp m [] m.starts limit) → IfErr r (IsTooBig cmp m limit)
+  starts_too_big limit (Ok x) passing = tt
+  starts_too_big limit (Err Want) passing = tt
+  starts_too_big limit (Err (Nodes count)) passing = (passing.0, λ t rise closed. passing.1 t rise closed.fit (λ k v e. absurd (cc)) closed.starts)
+
+  -- the sum of no parts
+  pub first_sum : {A : Type 0} (r : Result (CoreState K V) A) → IfOk r (λ core. Joins m (fact_at cmp []) m.starts (fact_at cmp core.facts))
+      → IfOk r (λ core. IsSum cmp m [] (fact_at cmp core.facts))
+  first_sum (Ok core) joined = sum_nothing core.facts joined
+  first_sum (Err e) joined = tt

@@ -1,7 +1,7 @@
-ghost use Rattle.std.specs.Prelude.{◌≡◌, ℕ, ◌<◌, ◌≤◌, [], IfOk, OnOk, length};
+ghost use Rattle.std.specs.Prelude.{◌≡◌, ◌≤◌, [], IfOk};
 ghost use Rattle.flow_core.specs.Core.{IsGood, counted_keys};
 ghost use Rattle.flow_system.specs.Facts.{fact_at, KeysRise};
-ghost use Rattle.flow_system.specs.State.{AllFit, HoldsDue, IsBelow};
+ghost use Rattle.flow_system.specs.State.{AllFit, HoldsDue};
 
 use crate::part::Part;
 use crate::pieces::copy_pieces;
@@ -57,7 +57,23 @@ impl<'a, S: System, N: Name<S::Key, S::Val>> Drop for Field<'a, S, N> {
     }
 }
 
-/// Begins a part with the facts of its own keys.
+/// The keys of a number.
+fn own_keys<S: Parted>(
+    alloc: Global,
+    system: &S,
+    keys: &[S::Key],
+    number: u32,
+) -> Result<Vec<S::Key>, Want> {
+    let mut own = Vec::new(alloc);
+    for k in keys {
+        if system.part(*k) == number {
+            own.push(*k)?;
+        }
+    }
+    Ok(own)
+}
+
+/// Begins a part with the facts of its own keys. The limit can't be passed, since all its facts stand in these.
 fn part_of<S: Parted, N: Name<S::Key, S::Val>>(
     alloc: Global,
     system: &S,
@@ -73,35 +89,11 @@ fn part_of<S: Parted, N: Name<S::Key, S::Val>>(
     requires rise { KeysRise S.Key.cmp facts.now }
     requires within { counted_keys N.rules facts.now ≤ limit }
 {
+    let own = own_keys(alloc, system, keys, number)?;
+    let pieces = copy_pieces(alloc, system, facts, &own)?;
     let mut part = Part::new(alloc, system, number, limit)?;
-    for k in keys {
-        if system.part(*k) == number {
-            begin_key(alloc, system, facts, *k, &mut part)?;
-        }
-    }
-    Ok(part)
-}
-
-/// Begins a part with the fact of a key. The limit can't be passed, since the part then has facts that all stand in these.
-fn begin_key<S: Parted, N: Name<S::Key, S::Val>>(
-    alloc: Global,
-    system: &S,
-    facts: &Facts<S::Key, S::Val>,
-    k: S::Key,
-    part: &mut Part<S, N>,
-) -> Result<(), Want>
-    requires named { S.rules system.now ≡ N.rules }
-    requires fit { AllFit N.rules (fact_at S.Key.cmp facts.now) }
-    requires due { HoldsDue N.rules (fact_at S.Key.cmp facts.now) }
-    requires rise { KeysRise S.Key.cmp facts.now }
-    requires within { counted_keys N.rules facts.now ≤ N.limit }
-    requires below { IsBelow N.rules (fact_at S.Key.cmp part.old.core.facts) (fact_at S.Key.cmp facts.now) }
-    ensures { OnOk result (IsBelow N.rules (fact_at S.Key.cmp part.new.core.facts) (fact_at S.Key.cmp facts.now)) }
-{
-    let keys = [k];
-    let pieces = copy_pieces(alloc, system, facts, &keys)?;
-    match part.begin(alloc, system, &pieces, k) {
-        Ok(_) => Ok(()),
+    match part.begin(alloc, system, &own, &pieces) {
+        Ok(_) => Ok(part),
         Err(GrowRefusal::Want) => Err(Want),
         Err(GrowRefusal::Nodes { count: _ }) => unreachable!(),
     }

@@ -7,11 +7,11 @@ ghost use Rattle.flow_core.specs.Queue.{IsLeast};
 ghost use Rattle.flow_core.specs.Refusal.{IsPassing, IsTooBig};
 ghost use Rattle.flow_core.specs.Staged.{PiecesFit};
 ghost use Rattle.flow_system.specs.State.{AllDue};
-ghost use Rattle.part_pool.specs.Part.{PassesOthers, TakesOwn};
+ghost use Rattle.part_pool.specs.Part.{IsKeptPart, PassesOthers, TakesOwn};
 
 use crate::field::DueKeys;
 use crate::mail::Mail;
-use crate::telling::{ask_others, tell_pieces};
+use crate::telling::{ask_for_all, tell_pieces};
 use bt_base::Want;
 use edge_publish::Board;
 use flow_core::{Answer, Claim, Core, GrowRefusal};
@@ -97,7 +97,8 @@ impl<S: Parted, N: Name<S::Key, S::Val>> Part<S, N> {
 
     /// The facts of its own keys, and the copies.
     pub fn facts(&self) -> &Facts<S::Key, S::Val>
-        ensures { result.now ≡ self.now.core.facts }
+        ensures facts { result.now ≡ self.now.core.facts }
+        ensures kept { IsKeptPart S.Key.cmp N.rules N.limit self.now.core }
     {
         self.core.facts()
     }
@@ -196,13 +197,13 @@ impl<S: Parted, N: Name<S::Key, S::Val>> Part<S, N> {
         self.core.join(alloc, system, pieces)
     }
 
-    /// Joins the due piece of an own key with which the part begins.
+    /// Joins the due pieces of own keys with which the part begins.
     pub(crate) fn begin(
         &mut self,
         alloc: Global,
         system: &S,
+        keys: &[S::Key],
         pieces: &[(S::Key, S::Val)],
-        k: S::Key,
     ) -> Result<usize, GrowRefusal>
         requires named { S.rules system.now ≡ N.rules }
         requires pieces_fit { PiecesFit N.rules pieces.now }
@@ -211,7 +212,7 @@ impl<S: Parted, N: Name<S::Key, S::Val>> Part<S, N> {
         ensures joined { IfOk result (Absorbs S.Key.cmp N.rules self.old.core pieces.now self.new.core) }
         ensures nodes { IfErr result (IsPassing S.Key.cmp N.rules self.old.core.facts pieces.now N.limit) }
     {
-        ask_others(alloc, system, self.number, &mut self.mail, k)?;
+        ask_for_all(alloc, system, self.number, &mut self.mail, keys)?;
         self.core.join(alloc, system, pieces)
     }
 

@@ -1,7 +1,8 @@
-ghost use Rattle.std.specs.Prelude.{◌≡◌, ℕ, [], IfOk, IfErr, OnOk};
-ghost use Rattle.flow_core.specs.Core.{CoreState, IsGood, IsKey, IsPart, IsPending};
+ghost use Rattle.std.specs.Prelude.{◌≡◌, [], IfOk, IfErr, OnOk};
+ghost use Rattle.flow_core.specs.Core.{IsGood, IsPart};
 ghost use Rattle.flow_core.specs.Refusal.{IsTooBig};
 ghost use Rattle.flow_system.specs.Facts.{fact_at};
+ghost use Rattle.flow_system.specs.State.{AllFit};
 ghost use Rattle.part_pool.specs.Sum.{AddsPart, AllPending, IsSum};
 
 use crate::field::Field;
@@ -11,6 +12,18 @@ use flow_core::{Core, GrowRefusal};
 use flow_system::{Name, Parted};
 use shard_slots::ShardSeat;
 use std::alloc::Global;
+
+/// The sum of no parts: a core of the start pieces, all pending.
+fn sum_of_none<S: Parted>(alloc: Global, system: &S, limit: u64) -> Result<Core<S>, GrowRefusal>
+    ensures sum { IfOk result (λ core. IsSum S.Key.cmp (S.rules system.now) [] (fact_at S.Key.cmp core.facts)) }
+    ensures part { IfOk result (IsPart S.Key.cmp (S.rules system.now)) }
+    ensures pending { IfOk result (AllPending S.Key.cmp) }
+    ensures none_out { IfOk result (λ core. core.out ≡ []) }
+    ensures limit { IfOk result (λ core. core.limit ≡ limit) }
+    ensures nodes { IfErr result (IsTooBig S.Key.cmp (S.rules system.now) limit) }
+{
+    Core::new(alloc, system, limit)
+}
 
 /// Joins a part's facts to a core.
 fn add_part<S: Parted, N: Name<S::Key, S::Val>>(
@@ -22,6 +35,7 @@ fn add_part<S: Parted, N: Name<S::Key, S::Val>>(
     requires named { S.rules system.now ≡ N.rules }
     requires part { IsPart S.Key.cmp N.rules core.old }
     requires pending { AllPending S.Key.cmp core.old }
+    ensures fit { OnOk result (AllFit N.rules (fact_at S.Key.cmp part.now.core.facts)) }
     ensures added { OnOk result (AddsPart S.Key.cmp N.rules part.now.core.facts core.old.facts core.new.facts) }
     ensures part { IsPart S.Key.cmp N.rules core.new }
     ensures pending { OnOk result (AllPending S.Key.cmp core.new) }
@@ -55,7 +69,7 @@ pub fn sum_of<S: Parted, N: Name<S::Key, S::Val>>(
     ensures limit { IfOk result (λ core. core.limit ≡ N.limit) }
     ensures nodes { IfErr result (IsTooBig S.Key.cmp N.rules N.limit) }
 {
-    let mut core = Core::new(alloc, system, limit)?;
+    let mut core = sum_of_none(alloc, system, limit)?;
     for part in parts {
         add_part(alloc, system, part, &mut core)?;
     }

@@ -27,7 +27,7 @@ pub fn publish<R: Wait, K: Copy, V, N: Name<K, V>>(
 }
 
 /// Asks the other parts for the facts that a key reads.
-pub fn ask_others<S: Parted>(
+fn ask_others<S: Parted>(
     alloc: Global,
     system: &S,
     number: u32,
@@ -39,6 +39,20 @@ pub fn ask_others<S: Parted>(
         if home != number {
             mail.ask(home, *r)?;
         }
+    }
+    Ok(())
+}
+
+/// Asks the other parts for the facts that these keys read.
+pub fn ask_for_all<S: Parted>(
+    alloc: Global,
+    system: &S,
+    number: u32,
+    mail: &mut Mail<S::Key>,
+    keys: &[S::Key],
+) -> Result<(), Want> {
+    for k in keys {
+        ask_others(alloc, system, number, mail, *k)?;
     }
     Ok(())
 }
