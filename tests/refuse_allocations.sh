@@ -1,5 +1,5 @@
 #!/bin/sh
-# Refuses each allocation in turn while two workers grow a small ring, under a lock and by parts, and sees that every run
+# Refuses each allocation in turn while two workers grow a small ring under a lock, and sees that every run
 # ends: in the whole graph, or in want of memory with each claim given back. The words FROM and TO bound the numbers of the
 # allocations, 1 and 80 where left out. It works on a copy, and builds anew for each number.
 set -eu
