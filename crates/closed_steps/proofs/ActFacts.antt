@@ -1,5 +1,5 @@
 -- What the act of a place keeps of its instruction, by the instruction.
-use Rattle.std.proofs.Common.{◌≡◌, ◌≢◌, ℕ, zero, suc, ◌+◌, ◌<◌, ◌≤◌, ◌||◌, ◌&&◌, Bool, true, false, List, [], ◌∷◌, length, Option, Some, None, Contains, if◌then◌else◌, refl, sym, ap, subst, ◌∙◌, arith, pos, negsuc, ◌⊎◌, inl, inr}
+use Rattle.std.proofs.Common.{◌≡◌, ◌≢◌, ℕ, zero, suc, ◌+◌, ◌<◌, ◌||◌, ◌&&◌, Bool, true, false, List, [], ◌∷◌, Option, Some, None, Contains, if◌then◌else◌, refl, sym, subst, ◌∙◌, arith, pos, negsuc, ◌⊎◌, inl, inr}
 use Rattle.std.specs.Prelude.{◌==◌, not, nat_lt, slice_index_or}
 use Rattle.std.specs.Ordering.{int_eq}
 use Rattle.std.proofs.lemmas.Bool.{and_from, and_parts, both_ways, eq-eqb, eqb-true, false≢true, lt-ltb, ne_eqb, or_left, or_right, not_from_false}
@@ -25,14 +25,14 @@ use Rattle.transfer_acts.specs.Operand.{operand, register}
 use Rattle.transfer_acts.specs.Step.{into, nothing, read, sets}
 use Rattle.transfer_rules.specs.Give.{is_written, mask_of, mask_of_write}
 use Rattle.transfer_rules.specs.declared.act.Act.{Act}
-use Rattle.transfer_rules.specs.declared.act.Act.TheVariants.{Acts, Dead, Open}
+use Rattle.transfer_rules.specs.declared.act.Act.TheVariants.{Acts}
 use Rattle.transfer_rules.specs.declared.act.Aim.{Aim}
 use Rattle.transfer_rules.specs.declared.act.Aim.TheVariants.{Computed, Fixed}
 use Rattle.transfer_rules.specs.declared.act.Candidates.{Candidates}
 use Rattle.transfer_rules.specs.declared.act.Candidates.TheVariants.{Functions, Labels}
 use Rattle.transfer_rules.specs.declared.act.Exit.{Exit}
 use Rattle.transfer_rules.specs.declared.act.Way.{Way}
-use Rattle.transfer_rules.specs.declared.act.Way.TheVariants.{Forks, Onward, CallsTo, JumpsTo, ReturnsBy}
+use Rattle.transfer_rules.specs.declared.act.Way.TheVariants.{Forks, CallsTo, JumpsTo, ReturnsBy}
 use Rattle.transfer_rules.specs.declared.step.Source.{Source}
 use Rattle.transfer_rules.specs.declared.step.Source.TheVariants.{Anything, Exactly, Loaded, Ranged}
 use Rattle.transfer_rules.specs.declared.step.Step.{Step}

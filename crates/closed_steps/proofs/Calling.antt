@@ -1,19 +1,18 @@
 -- Where the delay instructions of calls and returns lead, as the facts answer it.
-use Rattle.std.proofs.Common.{◌≡◌, ◌≢◌, ℕ, ◌+◌, ◌-◌, ◌*◌, ◌%◌, ◌/◌, ◌^◌, ◌<◌, ◌≤◌, inl, inr, Bool, true, false, List, [], ◌∷◌, Option, Some, None, refl, sym, ap, subst, ◌∙◌, arith, if◌then◌else◌}
+use Rattle.std.proofs.Common.{◌≡◌, ℕ, ◌+◌, ◌-◌, ◌*◌, ◌%◌, ◌/◌, ◌^◌, ◌<◌, inl, inr, Bool, true, false, List, ◌∷◌, Option, Some, None, refl, sym, ap, subst, ◌∙◌, arith, if◌then◌else◌}
 use Rattle.std.specs.Prelude.{◌==◌, is_some, not}
 use Rattle.std.proofs.lemmas.Bool.{both_ways, cases_Bool, cases_eq, false≢true}
-use Rattle.abs_state.specs.State.{State, without}
+use Rattle.abs_state.specs.State.{without}
 use Rattle.abs_state.specs.declared.key.GapKind.TheVariants as why
 use Rattle.abs_state.specs.declared.key.Key.TheVariants as key
-use Rattle.abs_state.specs.declared.key.Next.{Next}
-use Rattle.abs_state.specs.declared.key.Next.TheVariants.{At, Into, Back}
+use Rattle.abs_state.specs.declared.key.Next.TheVariants.{At}
 use Rattle.abs_state.specs.declared.key.Place.{Place}
 use Rattle.assert_bind.specs.declared.body.BoundAssertion.{BoundAssertion}
 use Rattle.call_effects.proofs.MaskLemmas.{masks_are_sets, within_by}
 use Rattle.call_effects.proofs.SummaryLemmas.{implies, up_parts}
 use Rattle.call_effects.specs.Mask.{after_call, has_cell, is_within}
 use Rattle.call_effects.specs.declared.summary.Summary.{Summary as Effects}
-use Rattle.cell_places.specs.Place.{content_of, window_at}
+use Rattle.cell_places.specs.Place.{content_of}
 use Rattle.sparc_decode.specs.declared.instruction.Instr.{Instr}
 use Rattle.sparc_machine.specs.Effect.{flags_in}
 use Rattle.sparc_machine.specs.Frame.{Frame, Transfer, Stays, Calls, Returns, instruction_at, transfer_of}
@@ -24,31 +23,29 @@ use Rattle.sparc_runs.proofs.Levels.{depths}
 use Rattle.sparc_runs.proofs.Transfers.{keep_links}
 use Rattle.sparc_runs.specs.Cost.{annuls}
 use Rattle.sparc_runs.specs.Going.{skips}
-use Rattle.sparc_runs.specs.Running.{IsCalling, IsDue, IsReturning, returns}
+use Rattle.sparc_runs.specs.Running.{returns}
 use Rattle.sparc_runs.specs.Window.{depth_from}
-use Rattle.stack_laws.specs.Standing.{Backs, GoesOn, HandsOn, IsBack, StackFacts, Stands, behind_by, comes_back, effects_or_none, lent, no_effects, place_of, returns_by, summary_in, waiting_place}
+use Rattle.stack_laws.specs.Standing.{Backs, GoesOn, HandsOn, IsBack, StackFacts, Stands, behind_by, comes_back, effects_or_none, lent, no_effects, place_of, summary_in, waiting_place}
 use Rattle.stack_laws.specs.StepFacts.{GoesInto, GoesOut, PassesNothingOver, pushed, IsTaken as Takes}
 use Rattle.state_covers.proofs.CoverLemmas.{greater_states_cover}
 use Rattle.state_covers.specs.Covers.{Covers}
 use Rattle.step_covers.proofs.CoveredLemmas.{entered_cover, returned_cover}
-use Rattle.step_covers.specs.Covered.{IsCovered}
-use Rattle.step_covers.specs.Does.{Does, WayLeads}
+use Rattle.step_covers.specs.Does.{WayLeads}
 use Rattle.transfer_acts.proofs.Agreeing.{acts_agree_with_frames, code_is_read}
 use Rattle.transfer_acts.specs.Agreement.{Agrees}
 use Rattle.transfer_acts.specs.Program.{program_of}
-use Rattle.transfer_acts.specs.Reading.{is_skip, is_stub}
+use Rattle.transfer_acts.specs.Reading.{is_skip}
 use Rattle.transfer_acts.specs.Act.{is_next}
 use Rattle.transfer_rules.specs.Closed.{HasState, IsTaken, LeadsTo, Says}
 use Rattle.transfer_rules.specs.Fact.{effects_in, state_in}
-use Rattle.transfer_rules.specs.Give.{Facts, arguments, behind, entered_with, entry_of, onward}
+use Rattle.transfer_rules.specs.Give.{Facts, arguments, entered_with, entry_of, onward}
 use Rattle.transfer_rules.specs.declared.act.Way.{Way}
 use Rattle.transfer_rules.specs.declared.act.Way.TheVariants.{Onward}
 use Rattle.transfer_rules.specs.declared.fact.Fact.{Fact}
 use Rattle.transfer_rules.specs.declared.fact.Fact.TheVariants as fact
-use Rattle.transfer_rules.specs.declared.step.Step.{Step}
 use Rattle.transfer_values.specs.Family.{family}
 use Rattle.transfer_values.specs.Resolve.{widest}
-use Rattle.closed_steps.proofs.Leading.{depth_is, no_gap, same_place, skip_is, summary_is, went, writes_cells}
+use Rattle.closed_steps.proofs.Leading.{depth_is, no_gap, same_place, skip_is, summary_is, writes_cells}
 use Rattle.closed_steps.proofs.Taking.{IsDone}
 use Rattle.closed_steps.specs.Graph.{Answers, IsBound}
 

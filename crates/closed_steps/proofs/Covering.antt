@@ -1,19 +1,14 @@
 -- Each step of a run shows what the law of the stack asks of the facts.
-use Rattle.std.proofs.Common.{◌≡◌, ℕ, Bool, true, false, List, [], ◌∷◌, Option, Some, None, Contains, IsTrue, refl, sym, ap, subst, ◌∙◌}
-use Rattle.std.specs.Prelude.{is_some}
-use Rattle.abs_state.specs.State.{State, is_state_over}
+use Rattle.std.proofs.Common.{◌≡◌, ℕ, true, false, List, ◌∷◌, refl, sym, subst}
 use Rattle.abs_state.specs.declared.key.Key.TheVariants as key
-use Rattle.abs_state.specs.declared.key.Place.{Place}
 use Rattle.assert_bind.proofs.StubLemmas.{stubs_those}
-use Rattle.assert_bind.specs.Binding.{stub, stubs}
-use Rattle.assert_bind.specs.declared.body.BoundAssertion.{BoundAssertion}
 use Rattle.call_effects.specs.Summary.{effects_of_stub, is_at_most}
 use Rattle.call_effects.specs.declared.summary.Summary.{Summary as Effects}
 use Rattle.flow_system.specs.State.{IsClosed}
-use Rattle.sparc_machine.specs.Frame.{Frame, Transfer, Stays, Calls, Returns, transfer_of}
+use Rattle.sparc_machine.specs.Frame.{Frame, Stays, Calls, Returns}
 use Rattle.sparc_machine.specs.declared.machine.Machine.{Machine}
-use Rattle.stack_laws.specs.Standing.{StackFacts, Stands, place_of, summary_in}
-use Rattle.stack_laws.specs.StepFacts.{GoesInside, GoesInto, GoesOut, StepFacts, pushed, IsTaken as Takes}
+use Rattle.stack_laws.specs.Standing.{Stands, place_of, summary_in}
+use Rattle.stack_laws.specs.StepFacts.{GoesInside, GoesInto, GoesOut, pushed, IsTaken as Takes}
 use Rattle.transfer_acts.specs.Program.{program_of}
 use Rattle.transfer_acts.specs.Reading.{is_stub}
 use Rattle.transfer_rules.proofs.Closing.{closed_calls, closed_has_gaps, closed_leads_on, closed_says, closed_starts}
@@ -24,12 +19,11 @@ use Rattle.transfer_rules.specs.Lawful.{rules_of}
 use Rattle.transfer_rules.specs.declared.fact.Fact.TheVariants as fact
 use Rattle.transfer_values.specs.Family.{family}
 use Rattle.transfer_values.specs.Resolve.{widest}
-use Rattle.value_lattice.specs.Thresholds.{IsThresholds}
 use Rattle.closed_steps.proofs.Calling as calling
 use Rattle.closed_steps.proofs.Leading as leading
 use Rattle.closed_steps.proofs.Leading.{summary_is}
-use Rattle.closed_steps.proofs.Taking.{IsDone, done}
-use Rattle.closed_steps.specs.Graph.{Answers, AreGraphs, ClosedStatesCoverSteps, GraphsCoverSteps, IsBound}
+use Rattle.closed_steps.proofs.Taking.{done}
+use Rattle.closed_steps.specs.Graph.{Answers, ClosedStatesCoverSteps, GraphsCoverSteps}
 
 pub graphs_cover_steps : GraphsCoverSteps
 graphs_cover_steps image costs list eight y x bound graphs = record { inside = inside; into = into; entered = entered; out = out; stubs = graphs.stubs } where

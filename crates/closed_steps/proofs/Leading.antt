@@ -1,15 +1,13 @@
 -- Where a step of a run leads, as the facts answer it.
-use Rattle.std.proofs.Common.{◌≡◌, ◌≢◌, ℕ, ◌+◌, ◌-◌, ◌*◌, ◌%◌, ◌^◌, ◌<◌, ◌≤◌, ◌⊎◌, inl, inr, Bool, true, false, ◌&&◌, ◌||◌, List, [], ◌∷◌, Option, Some, None, Contains, zero, suc, refl, sym, ap, subst, ◌∙◌, arith, if◌then◌else◌}
-use Rattle.std.specs.Prelude.{◌==◌, is_some, not, slice_index, slice_index_or, IfSome, pos}
+use Rattle.std.proofs.Common.{◌≡◌, ℕ, ◌+◌, ◌-◌, ◌%◌, ◌^◌, ◌<◌, ◌⊎◌, inl, inr, Bool, true, false, List, [], ◌∷◌, Option, Some, None, Contains, zero, suc, refl, sym, ap, subst, ◌∙◌, arith, if◌then◌else◌}
+use Rattle.std.specs.Prelude.{is_some, not, slice_index_or, IfSome}
 use Rattle.std.specs.List.{list_any}
-use Rattle.std.specs.Ordering.{int_eq}
 use Rattle.std.proofs.lemmas.Bool.{and_parts, both_ways, cases_Bool, not-true, or_left}
 use Rattle.abs_state.specs.State.{State, cell_at}
 use Rattle.abs_state.specs.declared.flags.Right.{Right}
 use Rattle.abs_state.specs.declared.key.GapKind.{GapKind}
 use Rattle.abs_state.specs.declared.key.GapKind.TheVariants as why
 use Rattle.abs_state.specs.declared.key.Key.TheVariants as key
-use Rattle.abs_state.specs.declared.key.Next.{Next}
 use Rattle.abs_state.specs.declared.key.Next.TheVariants.{At, Into, Back}
 use Rattle.abs_state.specs.declared.key.Place.{Place}
 use Rattle.assert_bind.proofs.SightLemmas.{answers_all}
@@ -24,10 +22,9 @@ use Rattle.call_effects.specs.declared.summary.Summary.{Summary as Effects}
 use Rattle.cell_places.specs.Place.{content_of, window_at}
 use Rattle.sparc_decode.specs.declared.instruction.Instr.{Instr}
 use Rattle.sparc_decode.specs.declared.instruction.Instr.TheVariants.{Jmpl}
-use Rattle.sparc_decode.specs.declared.instruction.Second.{Second}
 use Rattle.sparc_decode.specs.declared.instruction.Second.TheVariants.{Reg, Imm}
 use Rattle.sparc_machine.specs.Effect.{flags_in}
-use Rattle.sparc_machine.specs.Frame.{Frame, Transfer, Stays, Calls, Returns, StepsTo, instruction_at, transfer_of}
+use Rattle.sparc_machine.specs.Frame.{Frame, Transfer, Stays, Calls, Returns, instruction_at, transfer_of}
 use Rattle.sparc_machine.specs.Register.{physical_of}
 use Rattle.sparc_machine.specs.Straight.{code_instruction, passes}
 use Rattle.sparc_machine.specs.declared.machine.Machine.{Machine}
@@ -38,13 +35,13 @@ use Rattle.sparc_runs.specs.Going.{skips}
 use Rattle.sparc_runs.specs.Meets.{sight_of, target_by}
 use Rattle.sparc_runs.specs.Running.{IsDue}
 use Rattle.sparc_runs.specs.Window.{depth_from}
-use Rattle.stack_laws.specs.Standing.{LeadsOn, StackFacts, Stands, WritesCells, effects_or_none, place_of, returns_by, summary_in}
+use Rattle.stack_laws.specs.Standing.{LeadsOn, StackFacts, Stands, WritesCells, effects_or_none, place_of, summary_in}
 use Rattle.stack_laws.specs.StepFacts.{IsTaken as Takes}
 use Rattle.state_covers.proofs.CoverLemmas.{greater_states_cover}
 use Rattle.state_covers.specs.Covers.{Covers}
 use Rattle.step_covers.proofs.CoveredLemmas.{aims_resolved, tests_cover}
 use Rattle.step_covers.proofs.WriteLemmas.{places_written}
-use Rattle.step_covers.specs.Covered.{IsCovered, IsPlaceWritten}
+use Rattle.step_covers.specs.Covered.{IsCovered}
 use Rattle.step_covers.specs.Does.{AimsAt, Does, ExitLeads, GoesBack}
 use Rattle.step_covers.specs.Follows.{FlagsFollow}
 use Rattle.step_covers.specs.Says.{IsTaken as IsOpen}
@@ -53,9 +50,9 @@ use Rattle.transfer_acts.specs.Agreement.{Agrees, IsCallTo}
 use Rattle.transfer_acts.specs.Program.{program_of}
 use Rattle.transfer_acts.specs.Reading.{is_skip}
 use Rattle.transfer_rules.proofs.PieceLists.{any_of_more}
-use Rattle.transfer_rules.specs.Closed.{IsTaken, LeadsTo, Says}
+use Rattle.transfer_rules.specs.Closed.{IsTaken, LeadsTo}
 use Rattle.transfer_rules.specs.Fact.{effects_in, state_in}
-use Rattle.transfer_rules.specs.Give.{Facts, behind, delayed, is_behind, is_known, mask_of, onward, place}
+use Rattle.transfer_rules.specs.Give.{Facts, delayed, is_behind, is_known, mask_of, onward, place}
 use Rattle.transfer_rules.specs.declared.act.Aim.{Aim}
 use Rattle.transfer_rules.specs.declared.act.Aim.TheVariants.{Computed, Fixed}
 use Rattle.transfer_rules.specs.declared.act.Candidates.{Candidates}
@@ -69,12 +66,11 @@ use Rattle.transfer_values.specs.Resolve.{resolved, widest}
 use Rattle.transfer_values.specs.Test.{tested}
 use Rattle.value_lattice.proofs.TestLemmas.{the_order_is_one, value_decides}
 use Rattle.value_lattice.specs.Test.{is_at_most as is_value_at_most}
-use Rattle.value_lattice.specs.Thresholds.{IsThresholds}
 use Rattle.value_lattice.specs.Value.{Has, is_ret}
 use Rattle.value_lattice.specs.declared.value.Value.{Value}
 use Rattle.value_lattice.specs.declared.value.Value.TheVariants.{Words, Range, Ret}
-use Rattle.closed_steps.proofs.Taking.{IsDone, done, there}
-use Rattle.closed_steps.specs.Act.{StepIs, aim_of, is_jump}
+use Rattle.closed_steps.proofs.Taking.{IsDone, there}
+use Rattle.closed_steps.specs.Act.{StepIs, is_jump}
 use Rattle.closed_steps.specs.Graph.{Answers, IsBound}
 
 pub same_place : (p q : Place) → p.sub ≡ q.sub → p.pc ≡ q.pc → p.next ≡ q.next → p.depth ≡ q.depth → p ≡ q

@@ -3,3 +3,4 @@ pub mod Taking
 pub mod Leading
 pub mod Calling
 pub mod Covering
+pub mod Following

@@ -1,32 +1,29 @@
 -- A step of a run, as the rules take it: the act of its place, and the states before and behind it, which cover the machines.
-use Rattle.std.proofs.Common.{◌≡◌, ◌≢◌, ℕ, ◌+◌, ◌*◌, ◌%◌, ◌^◌, ◌<◌, ◌⊎◌, Bool, true, false, List, [], ◌∷◌, Option, Some, None, Contains, refl, sym, ap, subst, ◌∙◌, arith, if◌then◌else◌}
+use Rattle.std.proofs.Common.{◌≡◌, ℕ, ◌<◌, Bool, true, false, List, ◌∷◌, Option, Some, None, refl, sym, ap, subst, if◌then◌else◌}
 use Rattle.std.specs.Prelude.{is_some}
 use Rattle.std.specs.Option.{option_map}
-use Rattle.std.proofs.lemmas.Bool.{both_ways, false≢true, lt-ltb}
-use Rattle.abs_state.specs.State.{State, is_state_over}
-use Rattle.abs_state.specs.declared.key.GapKind.{GapKind}
+use Rattle.std.proofs.lemmas.Bool.{both_ways}
+use Rattle.abs_state.specs.State.{State}
 use Rattle.abs_state.specs.declared.key.GapKind.TheVariants as why
 use Rattle.abs_state.specs.declared.key.Key.TheVariants as key
 use Rattle.abs_state.specs.declared.key.Place.{Place}
 use Rattle.assert_bind.specs.Binding.{never}
 use Rattle.assert_bind.specs.declared.body.BoundAssertion.{BoundAssertion}
-use Rattle.cell_places.specs.Place.{IsAtDepth, content_of, window_at}
 use Rattle.sparc_decode.specs.Instr.{instruction_of}
 use Rattle.sparc_decode.specs.declared.instruction.Instr.{Instr}
 use Rattle.sparc_machine.specs.Frame.{Frame, Transfer, instruction_at}
-use Rattle.sparc_machine.specs.Machine.{IsMachine}
 use Rattle.sparc_machine.specs.Straight.{code_instruction}
 use Rattle.sparc_machine.specs.declared.machine.Machine.{Machine}
 use Rattle.sparc_runs.proofs.StepLaws.{keeps_machines}
 use Rattle.sparc_runs.proofs.Stepping.{parts}
-use Rattle.stack_laws.specs.Standing.{Stands, StackFacts, place_of}
+use Rattle.stack_laws.specs.Standing.{StackFacts, place_of}
 use Rattle.stack_laws.specs.StepFacts.{IsTaken as Takes}
 use Rattle.step_covers.proofs.CoveredLemmas.{assertions_kept, narrows_cover, steps_cover}
 use Rattle.step_covers.proofs.DoLemmas.{steps_do}
 use Rattle.step_covers.specs.Covered.{IsCovered, IsCoveredSome}
 use Rattle.step_covers.specs.Does.{Does, IsHere}
 use Rattle.transfer_acts.proofs.Depths.{place_shallow}
-use Rattle.transfer_acts.specs.Act.{act_at, act_of, act_there, behind, open_instruction}
+use Rattle.transfer_acts.specs.Act.{act_at, act_of, act_there, behind}
 use Rattle.transfer_acts.specs.Program.{IsShallowAct, program_of}
 use Rattle.transfer_acts.specs.Reading.{is_stub}
 use Rattle.transfer_rules.specs.Closed.{IsAllowed, IsTaken}

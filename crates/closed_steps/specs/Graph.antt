@@ -1,5 +1,5 @@
 -- What the facts of a frame answer: where each of its program points leads, and what is said of subprograms and of gaps.
-use Rattle.std.specs.Prelude.{◌≡◌, ℕ, ◌<◌, Bool, true, false, not, List, ◌∷◌, Option, Some, None, Contains, IfSome}
+use Rattle.std.specs.Prelude.{◌≡◌, ℕ, Bool, true, false, not, List, ◌∷◌, Option, Some, None, Contains, IfSome}
 use Rattle.abs_state.specs.State.{State, cell_at, is_state_over, without}
 use Rattle.abs_state.specs.declared.key.GapKind.{GapKind}
 use Rattle.abs_state.specs.declared.key.GapKind.TheVariants as why
@@ -45,10 +45,10 @@ pub record Answers (t : List ℕ) (f : Family) (m : Program) (facts x : Facts) :
   pub over : (p : Place) (s : State) → facts (key.Node p) ≡ Some (fact.State s) → is_state_over t s ≡ true
   pub goes_on : (p : Place) (n : ℕ) (step : Step) (before after : State) → IsTaken f m facts p step Onward before after → p.next ≡ At n
       → LeadsTo facts p (onward p n step.depth) after
-  pub first : (p : Place) (step : Step) (exit : Exit) (other : Option Exit) (before after s : State) → IsTaken f m facts p step (Forks (Some exit) other) before after
-      → f.test exit.test after ≡ Some s → LeadsTo facts p (place p exit.pc (At exit.npc) p.depth) s
-  pub second : (p : Place) (step : Step) (exit : Exit) (other : Option Exit) (before after s : State) → IsTaken f m facts p step (Forks other (Some exit)) before after
-      → f.test exit.test after ≡ Some s → LeadsTo facts p (place p exit.pc (At exit.npc) p.depth) s
+  pub first : (p : Place) (step : Step) (exit : Exit) (other : Option Exit) (before after s : State)
+      → IsTaken f m facts p step (Forks (Some exit) other) before after → f.test exit.test after ≡ Some s → LeadsTo facts p (place p exit.pc (At exit.npc) p.depth) s
+  pub second : (p : Place) (step : Step) (exit : Exit) (other : Option Exit) (before after s : State)
+      → IsTaken f m facts p step (Forks other (Some exit)) before after → f.test exit.test after ≡ Some s → LeadsTo facts p (place p exit.pc (At exit.npc) p.depth) s
   pub calls : (p : Place) (target : ℕ) (step : Step) (aim : Aim) (before after : State) → IsTaken f m facts p step (CallsTo aim) before after
       → Contains (f.resolve p.pc aim before).list target → is_behind p target ≡ false → LeadsTo facts p (delayed p (Into target)) after
   pub jumps : (p : Place) (target : ℕ) (step : Step) (aim : Aim) (before after : State) → IsTaken f m facts p step (JumpsTo aim) before after
@@ -63,7 +63,8 @@ pub record Answers (t : List ℕ) (f : Family) (m : Program) (facts x : Facts) :
   pub skips : (p : Place) (target : ℕ) (step : Step) (before after : State) (there : Effects) → IsTaken f m facts p step Onward before after
       → p.next ≡ Into target → x (key.Summary target) ≡ Some (fact.Sum there) → there.skips ≡ true
       → LeadsTo facts p (onward p (behind p.pc 8) step.depth) (without after (after_call there.written step.depth))
-  pub unfollowed : (p : Place) (kind : GapKind) (before : State) → IsAllowed f facts p before → m.act p ≡ Open kind → x (key.Gap p.sub p.pc kind) ≡ Some fact.Mark
+  pub unfollowed : (p : Place) (kind : GapKind) (before : State) → IsAllowed f facts p before → m.act p ≡ Open kind
+      → x (key.Gap p.sub p.pc kind) ≡ Some fact.Mark
   pub unknown_calls : (p : Place) (step : Step) (aim : Aim) (before after : State) → IsTaken f m facts p step (CallsTo aim) before after
       → is_known p (f.resolve p.pc aim before) ≡ false → x (key.Gap p.sub p.pc why.Call) ≡ Some fact.Mark
   pub unknown_jumps : (p : Place) (step : Step) (aim : Aim) (before after : State) → IsTaken f m facts p step (JumpsTo aim) before after

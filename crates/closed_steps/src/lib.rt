@@ -6,4 +6,4 @@
 
 mod laws;
 
-pub use laws::{closed_states_cover_steps, graphs_cover_steps};
+pub use laws::{closed_states_cover_steps, graphs_cover_steps, runs_follow_closed_states};
