@@ -1,4 +1,5 @@
 pub mod Ascii
 pub mod Asks
 pub mod Exact
+pub mod GraphExact
 pub mod Wholes

@@ -2,7 +2,7 @@
 ghost use Rattle.std.specs.Prelude.{◌≡◌, IfOk, false};
 ghost use Rattle.clap.specs.Words.{app_of, rule_of};
 ghost use Rattle.clap.specs.declared.builder.Command.TheViews.{out-Command as fields_of};
-ghost use Rattle.bt_words.specs.App.{bound_app, boundt_app, decode_app, name_rule, workers_rule};
+ghost use Rattle.bt_words.specs.App.{boundt_app, decode_app, files_app, name_rule, workers_rule};
 
 use clap::{Arg, Command, value_parser};
 use std::alloc::{AllocError, Global};
@@ -26,16 +26,16 @@ fn workers<'a>(alloc: Global) -> Arg<'a>
         .default_value("1")
 }
 
-/// `bound IMAGE CYCLES ASSERTIONS [--workers N]`.
-fn bound<'a>(alloc: Global) -> Result<Command<'a>, AllocError>
-    ensures app { IfOk result (λ c. app_of c ≡ bound_app) }
+/// A subcommand that is given `IMAGE CYCLES ASSERTIONS [--workers N]`.
+fn files<'a>(alloc: Global, command: &'a str) -> Result<Command<'a>, AllocError>
+    ensures app { IfOk result (λ c. app_of c ≡ files_app command.entry.now) }
     ensures local { IfOk result (λ c. (fields_of c).has_globals ≡ false) }
 {
     let image = name(alloc, "IMAGE");
     let cycles = name(alloc, "CYCLES");
     let assertions = name(alloc, "ASSERTIONS");
     let workers = workers(alloc);
-    let empty = Command::new(alloc, "bound");
+    let empty = Command::new(alloc, command);
     let one = empty.arg(image)?;
     let two = one.arg(cycles)?;
     let three = two.arg(assertions)?;
@@ -55,7 +55,8 @@ fn decode<'a>(alloc: Global) -> Result<Command<'a>, AllocError>
 pub(crate) fn boundt<'a>(alloc: Global) -> Result<Command<'a>, AllocError>
     ensures { IfOk result (λ c. app_of c ≡ boundt_app) }
 {
-    let bound = bound(alloc)?;
+    let bound = files(alloc, "bound")?;
+    let graph = files(alloc, "graph")?;
     let decode = decode(alloc)?;
     let top = Command::new(alloc, "boundt")
         .no_binary_name(true)
@@ -63,5 +64,6 @@ pub(crate) fn boundt<'a>(alloc: Global) -> Result<Command<'a>, AllocError>
         .disable_help_subcommand(true)
         .subcommand_required(true);
     let first = top.subcommand(bound)?;
-    first.subcommand(decode)
+    let second = first.subcommand(graph)?;
+    second.subcommand(decode)
 }

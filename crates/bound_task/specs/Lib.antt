@@ -1,0 +1,4 @@
+pub mod Graph
+pub mod Problem
+pub mod Returning
+pub mod Text
