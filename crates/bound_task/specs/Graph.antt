@@ -11,6 +11,7 @@ use Rattle.flow_system.specs.Rules.{Rules}
 use Rattle.flow_system.specs.State.{IsDueGraph}
 use Rattle.transfer_fns.specs.Setting.{rules_over}
 use Rattle.transfer_rules.specs.declared.fact.Fact.{Fact}
+use Rattle.value_lattice.specs.Thresholds.{IsThresholds}
 
 -- how many program points a graph may have
 abbrev pub most_nodes : ℕ
@@ -24,6 +25,7 @@ rules_with t image costs those = rules_over t image those (has_eight costs)
 pub record IsGraphOf (image costs : List ℕ) (those : List BoundAssertion) (facts : List (Key × Fact)) : Type 0 where
   pub thresholds : List ℕ
   pub are_thresholds : AreThresholdsOf image those thresholds
+  pub lawful : IsThresholds thresholds
   pub rise : KeysRise compare facts
   pub due : IsDueGraph (rules_with thresholds image costs those) (fact_at compare facts)
   pub within : counted_keys (rules_with thresholds image costs those) facts ≤ most_nodes

@@ -2,12 +2,14 @@
 #![tactic(auto)]
 
 mod graph;
+mod laws;
 mod problem;
 mod refusal;
 mod returns;
 mod text;
 
 pub use graph::due_graph;
+pub use laws::{graph_is_one, graph_text_is_one_of, too_big_has_no_graph};
 pub use problem::Problem;
 pub use refusal::TaskRefusal;
 pub use returns::returning;

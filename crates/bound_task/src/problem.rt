@@ -30,6 +30,7 @@ impl Problem {
     {
         let eight = cycles.eight();
         let system = SparcSystem::make(alloc, image, binding, eight)?;
+        system.thresholds().are_thresholds();
         Ok(Problem { system, cycles })
     }
 

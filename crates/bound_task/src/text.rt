@@ -4,21 +4,24 @@ ghost use Rattle.bound_task.specs.Graph.{IsTooBigFor};
 ghost use Rattle.bound_task.specs.Problem.{IsProblemOf};
 ghost use Rattle.bound_task.specs.Text.{IsGraphTextOf};
 ghost use Rattle.std.specs.Map.{keys_of};
-ghost use Rattle.abs_state.specs.declared.key.Key.{Key};
-ghost use Rattle.transfer_rules.specs.declared.fact.Fact.{Fact};
+ghost use Rattle.abs_state.specs.Key.{compare};
+ghost use Rattle.flow_system.specs.Facts.{KeysRise};
 ghost use Rattle.graph_text.specs.Text.{IsGraphText};
 ghost use Rattle.bound_task.specs.Returning.{returning_in};
 
 use crate::{Problem, TaskRefusal, due_graph, returning};
+use abs_state::Key;
 use bt_base::Want;
 use bt_image::Image;
 use flow_system::Facts;
 use graph_text::graph_text;
 use std::alloc::Global;
+use transfer_rules::Fact;
 
 /// The text of the keys of facts and of the subprograms that return by them.
-fn text_of(alloc: Global, facts: &Facts<abs_state::Key, transfer_rules::Fact>, image: &Image) -> Result<Vec<u8>, Want>
-    ensures { IfOk result (λ text. IsGraphText image.now (keys_of facts.now) (returning_in facts.now) text.items) }
+fn text_of(alloc: Global, facts: &Facts<Key, Fact>, image: &Image) -> Result<Vec<u8>, Want>
+    ensures rise { IfOk result (λ text. KeysRise compare facts.now) }
+    ensures is { IfOk result (λ text. IsGraphText image.now (keys_of facts.now) (returning_in facts.now) text.items) }
 {
     let keys = facts.keys(alloc)?;
     let returning = returning(alloc, facts)?;
