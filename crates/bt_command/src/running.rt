@@ -133,8 +133,8 @@ fn graph<F: Shelf, K: Sink>(
         Err(NoFile::Refused(refusal)) => return Status::Cycles(refusal),
         Err(NoFile::Want) => return Status::Want,
     };
-    let binding = match assertions_from(alloc, shelf, assertions, &image) {
-        Ok(binding) => binding,
+    let those = match assertions_from(alloc, shelf, assertions, &image) {
+        Ok(those) => those,
         Err(NoFile::Fault) => return Status::ReadFault { file: 3 },
         Err(NoFile::TooLong) => {
             return Status::Limit(LimitFault::TooLong {
@@ -145,10 +145,10 @@ fn graph<F: Shelf, K: Sink>(
         Err(NoFile::Refused(fault)) => return Status::Assertions(fault),
         Err(NoFile::Want) => return Status::Want,
     };
-    if !binding.loops().is_empty() {
+    if !those.loops().is_empty() {
         return Status::NotYet { file: 3 };
     }
-    let text = match graph_for(alloc, image, cycles, binding) {
+    let text = match graph_for(alloc, image, cycles, those) {
         Ok(text) => text,
         Err(TaskRefusal::Nodes { count }) => return Status::Limit(LimitFault::Nodes { count }),
         Err(TaskRefusal::Want) => return Status::Want,

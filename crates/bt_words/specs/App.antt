@@ -31,9 +31,15 @@ files_app command = record { top = files_shape command; subs = [] }
 abbrev pub bound_shape : Shape
 bound_shape = files_shape (codes "bound")
 
+abbrev pub bound_app : App
+bound_app = record { top = bound_shape; subs = [] }
+
 -- `graph IMAGE CYCLES ASSERTIONS [--workers N]`
 abbrev pub graph_shape : Shape
 graph_shape = files_shape (codes "graph")
+
+abbrev pub graph_app : App
+graph_app = record { top = graph_shape; subs = [] }
 
 -- `decode IMAGE`
 abbrev pub decode_shape : Shape
@@ -52,6 +58,10 @@ boundt_shape = record (new_shape (codes "boundt")) {
   disable_help_subcommand = true;
   subcommand_required = true;
 }
+
+-- with its first two subcommands, and with all
+abbrev pub two_app : App
+two_app = record { top = boundt_shape; subs = bound_shape ∷ graph_shape ∷ [] }
 
 abbrev pub boundt_app : App
 boundt_app = record { top = boundt_shape; subs = bound_shape ∷ graph_shape ∷ decode_shape ∷ [] }
