@@ -1,5 +1,5 @@
 -- A program has one list of thresholds, so one due graph, and so one text of it.
-use Rattle.std.proofs.Common.{◌≡◌, ◌∙◌, ℕ, ℤ, ◌^◌, ◌<◌, ◌≤◌, ◌++◌, ◌⊎◌, ◌||◌, Bool, true, eqb, List, length, get_or, map, All, Contains, Option, Some, None, IsTrue, inl, inr, ⊎_elim, refl, sym, ap, subst, arith}
+use Rattle.std.proofs.Common.{◌≡◌, ◌∙◌, ℕ, ℤ, ◌^◌, ◌<◌, ◌≤◌, ◌++◌, ◌⊎◌, ◌||◌, Bool, true, eqb, List, length, get_or, map, All, Contains, Option, Some, None, Ordering, IsTrue, ⊎_elim, refl, sym, ap, subst, arith}
 use Rattle.std.specs.Prelude.{pos}
 use Rattle.std.specs.Map.{keys_of}
 use Rattle.std.specs.Set.{is_member}
@@ -36,9 +36,9 @@ use Rattle.bound_task.specs.Text.{IsGraphTextOf}
 
 -- the places of the numbers of a list are among those of a list that has these numbers
 mapped : (xs ys : List ℤ) → ((z : ℤ) → Contains xs z → Contains ys z) → (k : ℕ) → Contains (map rank_of xs) k → Contains (map rank_of ys) k
-mapped xs ys in k (i, within, is) =
+mapped xs ys goes k (i, within, is) =
     let inside : i < length xs = rw length-map at within in
-    let there = in (get_or xs i (pos 0)) (Contains-get_or xs i (pos 0) inside) in
+    let there = goes (get_or xs i (pos 0)) (Contains-get_or xs i (pos 0) inside) in
     let place : rank_of (get_or xs i (pos 0)) ≡ k = sym (get_or-map rank_of xs i (pos 0) k inside) ∙ is in
     subst (Contains (map rank_of ys)) place (mapped_one ys (get_or xs i (pos 0)) there)
   where
@@ -47,26 +47,26 @@ mapped xs ys in k (i, within, is) =
         (j, rw length-map low, get_or-map rank_of ys j z (rank_of z) low ∙ ap rank_of same)
 
 widened : (old : List ℕ) (xs ys : List ℤ) → ((z : ℤ) → Contains xs z → Contains ys z) → (k : ℕ) → is_widened old xs k ≡ true → is_widened old ys k ≡ true
-widened old xs ys in k is =
+widened old xs ys goes k is =
     ⊎_elim (λ before. or_left (is_member eqb old k) (is_member eqb (map rank_of ys) k) before)
     (λ listed. or_right (is_member eqb old k) (is_member eqb (map rank_of ys) k)
-        ((member_decides (map rank_of ys) k).1 (mapped xs ys in k ((member_decides (map rank_of xs) k).0 listed))))
+        ((member_decides (map rank_of ys) k).1 (mapped xs ys goes k ((member_decides (map rank_of xs) k).0 listed))))
     (or_cases (is_member eqb old k) (is_member eqb (map rank_of xs) k) is)
 
 within_widened : (old : List ℕ) (xs ys : List ℤ) → ((z : ℤ) → Contains xs z → Contains ys z) → (k : ℕ) → Contains (words_below (2 ^ 32) (is_widened old xs)) k
     → Contains (words_below (2 ^ 32) (is_widened old ys)) k
-within_widened old xs ys in k there =
+within_widened old xs ys goes k there =
     passing_is_there (2 ^ 32) (is_widened old ys) k
     (All-contains (λ v. v < 2 ^ 32) (words_below (2 ^ 32) (is_widened old xs)) k (words_fit (2 ^ 32) (is_widened old xs)) there)
-    (widened old xs ys in k (words_pass (2 ^ 32) (is_widened old xs) k there))
+    (widened old xs ys goes k (words_pass (2 ^ 32) (is_widened old xs) k there))
 
 one_widened : (old : List ℕ) (xs ys : List ℤ) → ((z : ℤ) → Contains xs z → Contains ys z) → ((z : ℤ) → Contains ys z → Contains xs z)
     → widen old xs ≡ widen old ys
 unfolding widen
-one_widened old xs ys in back =
+one_widened old xs ys goes back =
     same_rising (words_below (2 ^ 32) (is_widened old xs)) (words_below (2 ^ 32) (is_widened old ys))
     (words_rise (2 ^ 32) (is_widened old xs)) (words_rise (2 ^ 32) (is_widened old ys))
-    (within_widened old xs ys in) (within_widened old ys xs back)
+    (within_widened old xs ys goes) (within_widened old ys xs back)
 
 -- the numbers of a program, listed in one way, are those that are listed in another
 listed : (image : List ℕ) (xs ys asserted : List ℤ) → ((z : ℤ) → Contains xs z → IsOfCode image z) → ((z : ℤ) → IsOfCode image z → Contains ys z)
@@ -85,7 +85,7 @@ one_threshold_list image those t u first second =
 
 -- ---- the due graph
 
-module _ {K V : Type 0} (m : Rules K V) (cmp : _) (law : IsLawful cmp m) (s t : K → Option V) (first : IsDueGraph m s) (second : IsDueGraph m t) where
+module _ {K V : Type 0} (m : Rules K V) (cmp : K → K → Ordering) (law : IsLawful cmp m) (s t : K → Option V) (first : IsDueGraph m s) (second : IsDueGraph m t) where
   fact_same : (k : K) (v w : V) → s k ≡ Some v → t k ≡ Some w → v ≡ w
   fact_same k v w here there =
       let up = first.least k v here t second.closed in
@@ -127,4 +127,4 @@ too_big_has_no_graph image costs those facts big graph =
     let due = subst (λ t. IsDueGraph (rules_with t image costs those) (fact_at compare facts)) one graph.due in
     let within = subst (λ t. counted_keys (rules_with t image costs those) facts ≤ most_nodes) one graph.within in
     let more = big.over facts graph.rise due.closed in
-    omega arith
+    omega (arith, within, more)

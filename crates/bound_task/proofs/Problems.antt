@@ -49,3 +49,11 @@ too_big_of_problem p image costs those is over = record {
 pub if_ok : {X E : Type 0} (r : Result X E) (P Q : X → Type 0) → ((x : X) → P x → Q x) → IfOk r P → IfOk r Q
 if_ok (Ok x) P Q then p = then x p
 if_ok (Err e) P Q then p = p
+
+error_or : {X E : Type 0} → E → Result X E → E
+error_or other (Ok x) = other
+error_or other (Err e) = e
+
+-- one error is another, whatever else the answers may be
+pub err_moved : {X Y E : Type 0} (a b : E) → Err {T = X} {E = E} a ≡ Err b → Err {T = Y} {E = E} a ≡ Err b
+err_moved a b e = ap Err (ap (error_or a) e)

@@ -37,9 +37,11 @@ pub fn due_graph_text(alloc: Global, p: &Problem) -> Result<Vec<u8>, TaskRefusal
     ensures nodes { (image costs : List ℕ) (those : List BoundAssertion) (count : ℕ) → IsProblemOf image costs those p.now
         → IsErrOf result (TaskRefusal.Nodes count) → (count ≡ 131073) × IsTooBigFor image costs those }
 {
-    let closed = due_graph(alloc, p)?;
-    match text_of(alloc, closed.facts(), p.system().image()) {
-        Ok(text) => Ok(text),
-        Err(Want) => Err(TaskRefusal::Want),
+    match due_graph(alloc, p) {
+        Err(refusal) => Err(refusal),
+        Ok(closed) => match text_of(alloc, closed.facts(), p.system().image()) {
+            Ok(text) => Ok(text),
+            Err(Want) => Err(TaskRefusal::Want),
+        },
     }
 }

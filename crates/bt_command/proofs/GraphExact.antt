@@ -1,9 +1,8 @@
 -- What a status of the command `graph` says of files that are told, where no fault rises: it is what their bytes come to, or
 -- memory is wanting.
-use Rattle.std.proofs.Common.{◌≡◌, ℕ, zero, suc, ◌≤◌, ◌<◌, ◌⊎◌, inl, inr, Bool, cond, List, [], ◌∷◌, length, Option, Some, Result, Ok, Err, refl, sym, ap, subst, ◌∙◌}
+use Rattle.std.proofs.Common.{◌≡◌, ℕ, zero, suc, ◌≤◌, ◌<◌, ◌⊎◌, inl, inr, Bool, cond, List, length, Option, Some, Result, Ok, Err, refl, sym, ap, subst, ◌∙◌}
 use Rattle.assert_bind.specs.Binding.{binding, loops}
 use Rattle.assert_bind.specs.declared.body.BoundAssertion.{BoundAssertion}
-use Rattle.assert_bind.specs.declared.body.LoopLine.{LoopLine}
 use Rattle.assert_lang.specs.Text.{assertions_of}
 use Rattle.bound_task.specs.Graph.{IsTooBigFor}
 use Rattle.bound_task.specs.Text.{IsGraphTextOf}
@@ -11,7 +10,7 @@ use Rattle.bt_command.proofs.Exact.{not_over, over, told_over, past_image, past_
 use Rattle.bt_command.proofs.Wholes.{agrees}
 use Rattle.bt_command.specs.Bound.{Names, HasFiles, RefusesAssertions}
 use Rattle.bt_command.specs.Call.{Call, longest_image, longest_table, longest_assertions, AgreesWith, HasImage, HasCosts}
-use Rattle.bt_command.specs.Graph.{GraphSays, GraphIsExact, GraphIsWhole, ComesToGraph, graph_of_files, graph_of_text, graph_parsed, graph_bound, unlooped}
+use Rattle.bt_command.specs.Graph.{GraphSays, GraphIsExact, GraphIsWhole, ComesToGraph, graph_of_files, graph_of_text, graph_parsed, graph_bound, has_loop, unlooped}
 use Rattle.bt_command.specs.Order.{behind_costs, behind_table, behind_check, AreTold}
 use Rattle.bt_command.specs.declared.status.AssertFault.TheVariants.{Parse, Bind}
 use Rattle.bt_command.specs.declared.status.AssertFault.{AssertFault}
@@ -43,7 +42,7 @@ past_both call names image table text image' costs t i c =
 
 -- accepted files come to the assertions that they state
 accepted_files : (call : Call) (names : Names) (image table text image' costs : List ℕ) (those : List BoundAssertion) → AreTold call names image table text
-    → HasFiles call names image' costs those → graph_of_files image table text ≡ unlooped those (loops those)
+    → HasFiles call names image' costs those → graph_of_files image table text ≡ unlooped (has_loop (loops those)) those
 accepted_files call names image table text image' costs those t f =
     let same : image' ≡ image = agrees (call.told names.image) image' image f.has_image.file.same t.image_is in
     let a = f.has_assertions in
@@ -51,11 +50,6 @@ accepted_files call names image table text image' costs those t f =
     past_both call names image table text image' costs t f.has_image f.has_costs
     ∙ told_text (call.told names.assertions) image a.text text (Ok a.list) a.file.same a.file.within a.parsed t.text_is
     ∙ ap graph_bound bound
-
--- assertions that bound a loop
-looped : (those : List BoundAssertion) (lines : List LoopLine) → (lines ≡ [] → ⊥) → unlooped those lines ≡ Err (NotYet 3)
-looped those [] some = absurd (some refl)
-looped those (line ∷ lines) some = refl
 
 -- a told table has one list of costs
 one_costs : (told : Option (List ℕ)) (costs' costs table : List ℕ) → HasCosts told costs' → told ≡ Some table → table_of table ≡ Ok costs
@@ -96,7 +90,7 @@ graph_exact names call Bounded says image table text t n =
     let g = says.is in
     let same : g.image ≡ image = agrees (call.told names.image) g.image image g.files.has_image.file.same t.image_is in
     stated image table (graph_of_files image table text) g.those Bounded
-    (accepted_files call names image table text g.image g.costs g.those t g.files ∙ ap (unlooped g.those) g.no_loop)
+    (accepted_files call names image table text g.image g.costs g.those t g.files ∙ ap (λ (b : Bool). unlooped b g.those) g.no_loop)
     (inl (
       refl,
       λ costs is.
@@ -156,7 +150,7 @@ graph_exact names call (Limit (TooLong (suc (suc (suc (suc f)))) limit)) says im
 graph_exact names call (Limit (Nodes count)) says image table text t n =
     let same : says.image ≡ image = agrees (call.told names.image) says.image image says.files.has_image.file.same t.image_is in
     stated image table (graph_of_files image table text) says.those (Limit (Nodes count))
-    (accepted_files call names image table text says.image says.costs says.those t says.files ∙ ap (unlooped says.those) says.no_loop)
+    (accepted_files call names image table text says.image says.costs says.those t says.files ∙ ap (λ (b : Bool). unlooped b says.those) says.no_loop)
     (inr (
       ap (λ (c : ℕ). Limit (Nodes c)) says.count_is,
       λ costs is.
@@ -166,7 +160,7 @@ graph_exact names call (Limit (Nodes count)) says image table text t n =
 graph_exact names call (NotYet file) says image table text t n =
     refused image table (graph_of_files image table text) (NotYet file)
     (accepted_files call names image table text says.image says.costs says.those t says.files
-    ∙ looped says.those (loops says.those) says.has_loop
+    ∙ ap (λ (b : Bool). unlooped b says.those) says.some
     ∙ ap (λ (f : ℕ). Err (NotYet f)) (sym says.file_is))
 
 -- accepted files whose graph is within the limit come to the whole text

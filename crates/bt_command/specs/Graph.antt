@@ -1,6 +1,6 @@
 -- What each status of the command `graph` says of a call. Its files are those of `bound`: the image, the table of cycles
 -- and the assertions.
-use Rattle.std.specs.Prelude.{◌≡◌, ℕ, zero, suc, ◌≤◌, ◌⊎◌, List, [], ◌∷◌, length, Option, Some, None, Result, Ok, Err, nat_lt, if◌then◌else◌}
+use Rattle.std.specs.Prelude.{◌≡◌, ℕ, ◌⊎◌, Bool, true, false, List, [], ◌∷◌, length, Result, Ok, Err, nat_lt, if◌then◌else◌}
 use Rattle.assert_bind.specs.Binding.{binding, loops}
 use Rattle.assert_bind.specs.declared.body.BoundAssertion.{BoundAssertion}
 use Rattle.assert_bind.specs.declared.body.LoopLine.{LoopLine}
@@ -19,13 +19,18 @@ use Rattle.bt_command.specs.declared.status.Status.{Status}
 use Rattle.bt_command.specs.declared.status.Status.TheVariants.{Bounded, Usage, Image, Cycles, Assertions, ReadFault, WriteFault, Want, Limit, NotYet}
 use Rattle.cycle_table.specs.Table.{table_of}
 
+-- whether assertions bound a loop
+abbrev pub has_loop : List LoopLine → Bool
+has_loop [] = false
+has_loop (line ∷ lines) = true
+
 -- the text of the command: that of the due graph of what the files are
 pub record IsGraph (call : Call) (names : Names) (text : List ℕ) : Type 0 where
   pub image : List ℕ
   pub costs : List ℕ
   pub those : List BoundAssertion
   pub files : HasFiles call names image costs those
-  pub no_loop : loops those ≡ []
+  pub no_loop : has_loop (loops those) ≡ false
   pub graph : IsGraphTextOf image costs those text
 
 -- the due graph of what the files are has more program points than the limit
@@ -34,7 +39,7 @@ pub record HasTooManyNodes (call : Call) (names : Names) (count : ℕ) : Type 0 
   pub costs : List ℕ
   pub those : List BoundAssertion
   pub files : HasFiles call names image costs those
-  pub no_loop : loops those ≡ []
+  pub no_loop : has_loop (loops those) ≡ false
   pub count_is : count ≡ 131073
   pub over : IsTooBigFor image costs those
 
@@ -45,7 +50,7 @@ pub record HasLoop (call : Call) (names : Names) (file : ℕ) : Type 0 where
   pub costs : List ℕ
   pub those : List BoundAssertion
   pub files : HasFiles call names image costs those
-  pub has_loop : loops those ≡ [] → ⊥
+  pub some : has_loop (loops those) ≡ true
 
 -- the table of statuses
 abbrev pub GraphSays : Names → Call → Status → Type 0
@@ -61,15 +66,15 @@ GraphSays names call (Limit (TooLong file limit)) = PassesLimit call names file 
 GraphSays names call (Limit (Nodes count)) = HasTooManyNodes call names count
 GraphSays names call (NotYet file) = HasLoop call names file
 
--- bound assertions that bound no loop, or that loops aren't built yet
-abbrev pub unlooped : List BoundAssertion → List LoopLine → Result (List BoundAssertion) Status
-unlooped those [] = Ok those
-unlooped those (line ∷ lines) = Err (NotYet 3)
+-- assertions that bound no loop, or that loops aren't built yet
+abbrev pub unlooped : Bool → List BoundAssertion → Result (List BoundAssertion) Status
+unlooped false those = Ok those
+unlooped true those = Err (NotYet 3)
 
 -- what a bound list of assertions states
 abbrev pub graph_bound : Result (List BoundAssertion) BindRefusal → Result (List BoundAssertion) Status
 graph_bound (Err refusal) = Err (Assertions (Bind refusal))
-graph_bound (Ok those) = unlooped those (loops those)
+graph_bound (Ok those) = unlooped (has_loop (loops those)) those
 
 -- what a list of assertions states of an image
 abbrev pub graph_parsed : List ℕ → Result (List Assertion) AssertRefusal → Result (List BoundAssertion) Status

@@ -10,7 +10,7 @@ ghost use Rattle.bt_command.specs.Call.{call_of, longest_image};
 ghost use Rattle.bt_command.specs.Decode.{DecodeSays};
 ghost use Rattle.bt_command.specs.Graph.{GraphSays};
 
-use crate::graphing::graph_for;
+use crate::graphing::{graph_for, has_loops};
 use crate::inputs::{
     ASSERTIONS_LIMIT, IMAGE_LIMIT, NoFile, TABLE_LIMIT, assertions_from, cycles_from, image_from,
 };
@@ -145,7 +145,7 @@ fn graph<F: Shelf, K: Sink>(
         Err(NoFile::Refused(fault)) => return Status::Assertions(fault),
         Err(NoFile::Want) => return Status::Want,
     };
-    if !those.loops().is_empty() {
+    if has_loops(&those) {
         return Status::NotYet { file: 3 };
     }
     let text = match graph_for(alloc, image, cycles, those) {

@@ -37,8 +37,8 @@ returns-in-Err-Want-assertions_from-clause-asks g c =
     read_assertions _ _ _ _ _ _ _ c.in-Ok.ensures.asked c.in-Ok.ensures.accepted c.in-Ok-cycles_from.ensures.asked
     c.in-Ok-cycles_from.ensures.accepted (c.in-Ok.ensures.same c.args.cycles.now) c.in-Err-Want-assertions_from.ensures.asked
 
-pub returns-in-then-clause-asks : goal.returns-in-then-clause-asks
-returns-in-then-clause-asks g c =
+pub returns-then-has_loops-clause-asks : goal.returns-then-has_loops-clause-asks
+returns-then-has_loops-clause-asks g c =
     read_assertions _ _ _ _ _ _ _ c.in-Ok.ensures.asked c.in-Ok.ensures.accepted c.in-Ok-cycles_from.ensures.asked
     c.in-Ok-cycles_from.ensures.accepted (c.in-Ok.ensures.same c.args.cycles.now) c.in-Ok-assertions_from.ensures.asked
 
