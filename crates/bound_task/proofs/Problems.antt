@@ -1,6 +1,6 @@
 -- What is so of the system of a problem is so of the image, the costs and the assertions that it is of.
 use Rattle.std.proofs.Common.{◌≡◌, ◌∙◌, ℕ, ◌≤◌, List, ap, subst, Result, Ok, Err}
-use Rattle.std.specs.Prelude.{IfOk}
+use Rattle.std.specs.Prelude.{IfOk, IsErrOf}
 use Rattle.abs_state.specs.Key.{compare}
 use Rattle.abs_state.specs.declared.key.Key.{Key}
 use Rattle.assert_bind.specs.declared.body.BoundAssertion.{BoundAssertion}
@@ -55,5 +55,5 @@ error_or other (Ok x) = other
 error_or other (Err e) = e
 
 -- one error is another, whatever else the answers may be
-pub err_moved : {X Y E : Type 0} (a b : E) → Err {T = X} {E = E} a ≡ Err b → Err {T = Y} {E = E} a ≡ Err b
+pub err_moved : {X Y E : Type 0} (a b : E) → IsErrOf {T = X} {E = E} (Err a) b → IsErrOf {T = Y} {E = E} (Err a) b
 err_moved a b e = ap Err (ap (error_or a) e)

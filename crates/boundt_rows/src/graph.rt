@@ -71,12 +71,7 @@ fn refuses_in_order(rt: &(impl Abort + AllocGlobal)) -> Result<(), Fail> {
             "roots f\n",
             "boundt: 5 Line n 1 column 1 expected Keyword",
         ),
-        (
-            256,
-            "annulled 1\n",
-            "root g\n",
-            "boundt: 5 NoName line 1",
-        ),
+        (256, "annulled 1\n", "root g\n", "boundt: 5 NoName line 1"),
         (
             256,
             "annulled 1\n",

@@ -93,9 +93,11 @@ graph_exact names call Bounded says image table text t n =
     (accepted_files call names image table text g.image g.costs g.those t g.files ∙ ap (λ (b : Bool). unlooped b g.those) g.no_loop)
     (inl (
       refl,
-      λ costs is.
-      (says.text, moved (λ i c. IsGraphTextOf i c g.those says.text) g.image image g.costs costs same
-      (one_costs (call.told names.cycles) g.costs costs table g.files.has_costs t.table_is is) g.graph),
+      λ costs is. (
+        says.text,
+        moved (λ i c. IsGraphTextOf i c g.those says.text) g.image image g.costs costs same
+            (one_costs (call.told names.cycles) g.costs costs table g.files.has_costs t.table_is is) g.graph,
+      ),
     ))
 graph_exact names call Usage says image table text t n = absurd says
 graph_exact names call (Image refusal) says image table text t n =
@@ -154,8 +156,8 @@ graph_exact names call (Limit (Nodes count)) says image table text t n =
     (inr (
       ap (λ (c : ℕ). Limit (Nodes c)) says.count_is,
       λ costs is.
-      moved (λ i c. IsTooBigFor i c says.those) says.image image says.costs costs same
-      (one_costs (call.told names.cycles) says.costs costs table says.files.has_costs t.table_is is) says.over,
+          moved (λ i c. IsTooBigFor i c says.those) says.image image says.costs costs same
+          (one_costs (call.told names.cycles) says.costs costs table says.files.has_costs t.table_is is) says.over,
     ))
 graph_exact names call (NotYet file) says image table text t n =
     refused image table (graph_of_files image table text) (NotYet file)

@@ -18,4 +18,4 @@ RunsFollowDueGraphs =
     (image costs : List ℕ) (those : List BoundAssertion) (facts : List (Key × Fact)) (heads : Heads) (root : ℕ) (first : Machine) (rest : List Machine)
     → IsBound image those → IsGraphOf image costs those facts → IsRun image costs those heads root first rest
     → (invalid : ℕ) × ((i : ℕ) → i ≤ length rest → IsBeforeGaps image those (fact_at compare facts) first rest i
-        → IsFollowedAt image those (λ stack. fact_at compare facts) (fact_at compare facts) invalid first rest i)
+    → IsFollowedAt image those (λ stack. fact_at compare facts) (fact_at compare facts) invalid first rest i)

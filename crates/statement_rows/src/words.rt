@@ -98,7 +98,13 @@ const GRAPH: [(&str, &str, &str, &str, u32); 4] = [
     ("graph i c a", "i", "c", "a", 1),
     ("graph --workers=2 i c a", "i", "c", "a", 2),
     ("graph i c -- --workers", "i", "c", "--workers", 1),
-    ("graph graph bound decode --workers 64", "graph", "bound", "decode", 64),
+    (
+        "graph graph bound decode --workers 64",
+        "graph",
+        "bound",
+        "decode",
+        64,
+    ),
 ];
 
 /// Words that ask for a listing, and its image.

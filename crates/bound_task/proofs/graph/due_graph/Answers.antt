@@ -1,4 +1,4 @@
-use Rattle.std.proofs.Common.{◌≡◌, ◌∙◌, ℕ, List, ap, subst, sym}
+use Rattle.std.proofs.Common.{◌≡◌, ◌∙◌, subst, sym}
 use Rattle.abs_state.specs.Key.{compare}
 use Rattle.flow_core.specs.Core.{IsOver}
 use Rattle.flow_core.specs.Refusal.{IsTooBig}

@@ -1,4 +1,4 @@
-use Rattle.std.proofs.Common.{◌≡◌, ◌∙◌, ap, subst, sym}
+use Rattle.std.proofs.Common.{◌≡◌, ◌∙◌, subst, sym}
 use Rattle.std.specs.List.{flat_map}
 use Rattle.std.specs.List.Sorted.{IsStrictlyIncreasing, IsStrictlySortedBy}
 use Rattle.std.specs.Map.{keys_of}
@@ -6,7 +6,7 @@ use Rattle.abs_state.specs.Key.{compare}
 use Rattle.flow_system.specs.Facts.{fact_at}
 use Rattle.bound_task.proofs.Problems.{if_ok}
 use Rattle.bound_task.proofs.Rising.{increases}
-use Rattle.bound_task.specs.Returning.{returning_at, returning_in}
+use Rattle.bound_task.specs.Returning.{returning_at}
 use Rattle.bound_task.proofs.returns.returning.Goals as goal
 
 pub returns-clause-rise : goal.returns-clause-rise
