@@ -1,3 +1,4 @@
+pub mod Numbered
 pub mod Owners
 pub mod Ranges
 pub mod Stands

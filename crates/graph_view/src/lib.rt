@@ -3,10 +3,12 @@
 
 mod laws;
 mod lists;
+mod numbers;
 mod owned;
 mod subs;
 
 pub use laws::{keys_are_owned, keys_stand_in_lists};
 pub use lists::{Calling, KeyLists, OpenPoint, Step};
+pub use numbers::{graph_of, number_of};
 pub use owned::{OfSub, of_sub};
 pub use subs::subs_of;
