@@ -1,4 +1,7 @@
+pub mod Filling
+pub mod Known
 pub mod Numbered
 pub mod Owners
 pub mod Ranges
+pub mod Sited
 pub mod Stands
