@@ -45,14 +45,14 @@ call_is : (depth : ℕ) (callee rest : Option ℕ) (v : ℕ) → with_call depth
 call_is depth None rest v e = absurd (not_none v e)
 call_is depth (Some n) rest v e = record { need = n; known = refl; most = most_is (depth + n) rest v e }
 
-or_two : (a b : Bool) → (a || b) ≡ true → (a ≡ true) ⊎ (b ≡ true)
+pub or_two : (a b : Bool) → (a || b) ≡ true → (a ≡ true) ⊎ (b ≡ true)
 or_two true b e = inl refl
 or_two false b e = inr e
 
-test_is : (m n : ℕ) → (m == n) ≡ true → m ≡ n
+pub test_is : (m n : ℕ) → (m == n) ≡ true → m ≡ n
 test_is m n e = grind (arith, nat_tests)
 
-is_test : (m n : ℕ) → m ≡ n → (m == n) ≡ true
+pub is_test : (m n : ℕ) → m ≡ n → (m == n) ≡ true
 is_test m n e = grind (arith, nat_tests)
 
 module _ (known : ℕ → Option ℕ) where

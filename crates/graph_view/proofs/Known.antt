@@ -165,7 +165,7 @@ not_some None e = refl
 not_some (Some n) e = absurd (false≢true (sym e))
 
 -- an item in range, whatever stands in for one out of range
-same_at : {X : Type 0} (xs : List X) (k : ℕ) (d e : X) → k < length xs → get_or xs k d ≡ get_or xs k e
+pub same_at : {X : Type 0} (xs : List X) (k : ℕ) (d e : X) → k < length xs → get_or xs k d ≡ get_or xs k e
 same_at [] k d e less = absurd (omega (arith, less))
 same_at (x ∷ xs) zero d e less = refl
 same_at (x ∷ xs) (suc k) d e less = same_at xs k d e (omega (arith, less))

@@ -1,5 +1,6 @@
 pub mod Filling
 pub mod Known
+pub mod Leading
 pub mod Numbered
 pub mod Owners
 pub mod Ranges

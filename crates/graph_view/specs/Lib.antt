@@ -1,3 +1,4 @@
+pub mod Cycles
 pub mod Laws
 pub mod Lists
 pub mod Need

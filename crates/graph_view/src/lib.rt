@@ -1,6 +1,7 @@
 //! The keys of the facts by subprogram: its program points, steps, calls and open points, each in the order of the keys.
 #![tactic(auto)]
 
+mod cycles;
 mod laws;
 mod lists;
 mod needs;
@@ -9,6 +10,7 @@ mod owned;
 mod sites;
 mod subs;
 
+pub use cycles::reached;
 pub use laws::{keys_are_owned, keys_stand_in_lists};
 pub use lists::{Calling, KeyLists, OpenPoint, Step};
 pub use needs::needs_of;
