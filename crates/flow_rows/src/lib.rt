@@ -1,0 +1,11 @@
+//! The worked rows of the rules: an instruction, a state, and the pieces that come of them.
+#![tactic(auto)]
+
+#[cfg(test)]
+mod images;
+#[cfg(test)]
+mod rows;
+#[cfg(test)]
+mod systems;
+#[cfg(test)]
+mod texts;
