@@ -1,5 +1,5 @@
 //! Systems of some words, and what a place gives over a state.
-ghost use Rattle.std.specs.Prelude.{◌≡◌, ◌<◌, true, Some, IfOk, OnOk, IsTrue};
+ghost use Rattle.std.specs.Prelude.{◌≡◌, ◌<◌, true, IfOk, OnOk};
 ghost use Rattle.abs_state.specs.Key.{compare};
 ghost use Rattle.abs_state.specs.State.{is_state_over};
 ghost use Rattle.flow_system.specs.Facts.{fact_at};
@@ -143,21 +143,29 @@ fn behind(
     Ok(state)
 }
 
-/// The fact of one key.
-fn only(
-    system: &SparcSystem,
-    alloc: Global,
-    p: Place,
-    state: AbsState,
-) -> Result<Facts<Key, Fact>, Want>
-    requires depth { p.depth < 2 }
-    requires over { is_state_over system.now.thresholds state ≡ true }
-    ensures { IfOk result (λ facts. AllFit (rules_over system.now.thresholds system.now.image system.now.binding system.now.eight) (fact_at compare facts)) }
+/// No facts: they fit.
+fn none(system: &SparcSystem, alloc: Global) -> Facts<Key, Fact>
+    ensures { AllFit (rules_over system.now.thresholds system.now.image system.now.binding system.now.eight) (fact_at compare result) }
 {
     let _ = system.eight();
-    let mut facts = Facts::empty(alloc);
+    Facts::empty(alloc)
+}
+
+/// Adds the state at a place.
+fn put_state(
+    system: &SparcSystem,
+    facts: &mut Facts<Key, Fact>,
+    p: Place,
+    state: AbsState,
+) -> Result<(), Want>
+    requires fit { AllFit (rules_over system.now.thresholds system.now.image system.now.binding system.now.eight) (fact_at compare facts.old) }
+    requires depth { p.depth < 2 }
+    requires over { is_state_over system.now.thresholds state ≡ true }
+    ensures { OnOk result (AllFit (rules_over system.now.thresholds system.now.image system.now.binding system.now.eight) (fact_at compare facts.new)) }
+{
+    let _ = system.eight();
     facts.put(Key::Node(p), Fact::State(state))?;
-    Ok(facts)
+    Ok(())
 }
 
 /// Adds what a subprogram may do.
@@ -171,6 +179,7 @@ fn put_summary(
     ensures { OnOk result (AllFit (rules_over system.now.thresholds system.now.image system.now.binding system.now.eight) (fact_at compare facts.new)) }
 {
     let _ = system.eight();
+    let _ = summary.written.has(0);
     facts.put(Key::Summary { sub }, Fact::Sum(summary))?;
     Ok(())
 }
@@ -189,7 +198,8 @@ pub(crate) fn given(
         panic!(rt; "too deep");
     }
     let state = behind(rt, system.thresholds(), system.image(), steps)?;
-    let mut facts = only(system, alloc, p, state)?;
+    let mut facts = none(system, alloc);
+    put_state(system, &mut facts, p, state)?;
     if let Some((sub, may)) = callee {
         put_summary(system, &mut facts, sub, may)?;
     }
