@@ -2,6 +2,8 @@
 #![tactic(auto)]
 
 #[cfg(test)]
+mod graphs;
+#[cfg(test)]
 mod images;
 #[cfg(test)]
 mod rows;
