@@ -26,7 +26,8 @@ pub record IsBest (order node : List ℕ) (steps : List (Vec Step Global)) (laps
   pub followed : IsFollowed priced.labels entry best.walk.items
 
 -- it can't, and a node is named
-pub record IsOver (edge : ℕ → ℕ → Bool) (loops : List Loop) (all : Loops) (order node : List ℕ) (steps : List (Vec Step Global)) (laps : List ℕ) (start entry named : ℕ) : Type 0 where
+pub record IsOver (edge : ℕ → ℕ → Bool) (loops : List Loop) (all : Loops) (order node : List ℕ)
+    (steps : List (Vec Step Global)) (laps : List ℕ) (start entry named : ℕ) : Type 0 where
   pub cost : ℕ
   pub priced : IsPriced order node steps laps start entry cost
   pub over : limit ≤ cost

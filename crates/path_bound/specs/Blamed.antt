@@ -21,12 +21,14 @@ first_of large [] entry = entry
 first_of large (one ∷ loops) entry = if is_innermost_of large one then one.head else first_of large loops entry
 
 -- the heads that are marked are those of the loops inside which walks cost more than can be told
-pub record AreLarge (edge : ℕ → ℕ → Bool) (loops : List Loop) (all : Loops) (node : List ℕ) (steps : List (Vec Step Global)) (laps : List ℕ) (large : ℕ → Bool) : Type 0 where
+pub record AreLarge (edge : ℕ → ℕ → Bool) (loops : List Loop) (all : Loops) (node : List ℕ)
+    (steps : List (Vec Step Global)) (laps : List ℕ) (large : ℕ → Bool) : Type 0 where
   pub each : (k : ℕ) (one : Loop) → slice_get loops k ≡ Some one → IsWeighed edge all one node steps laps (large one.head)
   pub others : (n : ℕ) → all.has n ≡ false → large n ≡ false
 
 -- the node that is named, by marks that are so
-pub record IsNamedBy (edge : ℕ → ℕ → Bool) (loops : List Loop) (all : Loops) (entry : ℕ) (node : List ℕ) (steps : List (Vec Step Global)) (laps : List ℕ) (named : ℕ) : Type 0 where
+pub record IsNamedBy (edge : ℕ → ℕ → Bool) (loops : List Loop) (all : Loops) (entry : ℕ) (node : List ℕ)
+    (steps : List (Vec Step Global)) (laps : List ℕ) (named : ℕ) : Type 0 where
   pub large : ℕ → Bool
   pub are : AreLarge edge loops all node steps laps large
   pub is : named ≡ first_of large loops entry

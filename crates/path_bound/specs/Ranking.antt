@@ -35,13 +35,15 @@ pub record IsWaiting (edge : ℕ → ℕ → Bool) (loops : Loops) (inside : ℕ
   pub asleep : has done at ≡ false
 
 -- Each of some nodes is placed, is to be advanced, or waits. Those that wait for the nodes that are done were woken.
-pub record IsRanking (edge : ℕ → ℕ → Bool) (loops : Loops) (count : ℕ) (inside : ℕ → Bool) (done : List ℕ) (pending : ℕ → Bool) (order : List ℕ) (placed : List Bool) (waiting : List (Vec ℕ Global)) : Type 0 where
+pub record IsRanking (edge : ℕ → ℕ → Bool) (loops : Loops) (count : ℕ) (inside : ℕ → Bool) (done : List ℕ) (pending : ℕ → Bool)
+    (order : List ℕ) (placed : List Bool) (waiting : List (Vec ℕ Global)) : Type 0 where
   pub below : (n : ℕ) → inside n ≡ true → n < count
   pub placed_so : (n : ℕ) → inside n ≡ true → is_placed placed n ≡ has order n
   pub others : (n : ℕ) → inside n ≡ false → is_placed placed n ≡ true
   pub within : (n : ℕ) → has order n ≡ true → inside n ≡ true
   pub once : (k : ℕ) → k < length order → has (take k order) (slice_index order k) ≡ false
-  pub before : (k m : ℕ) → k < length order → inside m ≡ true → edge (slice_index order k) m ≡ true → is_back loops (slice_index order k) m ≡ false → has (take k order) m ≡ true
+  pub before : (k m : ℕ) → k < length order → inside m ≡ true → edge (slice_index order k) m ≡ true
+      → is_back loops (slice_index order k) m ≡ false → has (take k order) m ≡ true
   pub open_so : (n : ℕ) → inside n ≡ true → (has order n ≡ true) ⊎ ((pending n ≡ true) ⊎ IsWaiting edge loops inside done waiting n)
   pub quiet : (m : ℕ) → (inside m ≡ false) ⊎ (has done m ≡ true) → waits_for waiting m ≡ []
   pub listed : (m n : ℕ) → has (waits_for waiting m) n ≡ true → inside n ≡ true

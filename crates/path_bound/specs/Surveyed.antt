@@ -18,7 +18,8 @@ pub record AreFit (graph : List (List ℕ)) (loops : List Loop) (bounds : List �
   pub below : AreLoopsBelow (length graph) loops
   pub ends : HaveEnds (is_edge graph) (loops_in loops)
   pub hold : HoldHeads loops
-  pub ground : (nodes order : List ℕ) → AreNodes (length graph) nodes → IsOrder (is_edge graph) (loops_in loops) (has nodes) order → IsGround (task_of graph loops bounds costs) order
+  pub ground : (nodes order : List ℕ) → AreNodes (length graph) nodes → IsOrder (is_edge graph) (loops_in loops) (has nodes) order
+      → IsGround (task_of graph loops bounds costs) order
 
 -- the turns of the heads among the first nodes are taken
 pub record IsSurveyed (graph : List (List ℕ)) (loops : List Loop) (bounds : List ℕ) (costs : Weights) (count : ℕ) (survey : Survey) : Type 0 where

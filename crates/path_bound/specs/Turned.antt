@@ -27,7 +27,8 @@ size_of order = suc (length order)
 pub record IsGround (t : Task) (order : List ℕ) : Type 0 where
   pub falls : (n m : ℕ) → is_edge t.graph n m ≡ true → is_back t.loops n m ≡ false → rank_in order m < rank_in order n
   pub inner : (h m : ℕ) → t.loops.has h ≡ true → t.loops.body h m ≡ true → (h ≡ m → ⊥) → rank_in order m < rank_in order h
-  pub forward : (h : ℕ) (nodes : List ℕ) → t.loops.has h ≡ true → IsOrder (is_edge t.graph) t.loops (t.loops.body h) nodes → IsForwardOrder (is_edge t.graph) t.loops (t.loops.body h) nodes
+  pub forward : (h : ℕ) (nodes : List ℕ) → t.loops.has h ≡ true → IsOrder (is_edge t.graph) t.loops (t.loops.body h) nodes
+      → IsForwardOrder (is_edge t.graph) t.loops (t.loops.body h) nodes
   pub placed : (h : ℕ) → t.loops.has h ≡ true → has order h ≡ true
   pub once : (k : ℕ) → k < length order → has (take k order) (slice_index order k) ≡ false
   pub head : (h : ℕ) → t.loops.has h ≡ true → t.loops.body h h ≡ true

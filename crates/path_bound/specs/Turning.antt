@@ -18,10 +18,12 @@ abbrev pub NoLabels : List (Option Label) → Type 0
 NoLabels labels = (n : ℕ) → label_at labels n ≡ None
 
 -- each node of a list has the best of what its steps to nodes before it ask, and no other node has a label
-pub record ArePassed (order : List ℕ) (head : Option ℕ) (node : List ℕ) (steps : List (Vec Step Global)) (laps : List ℕ) (labels : List (Option Label)) : Type 0 where
+pub record ArePassed (order : List ℕ) (head : Option ℕ) (node : List ℕ)
+    (steps : List (Vec Step Global)) (laps : List ℕ) (labels : List (Option Label)) : Type 0 where
   pub labelled : (k : ℕ) → k < length order
       → label_at labels (slice_index order k)
-      ≡ best_of cap head (slice_index laps) (only (has (take k order)) (label_at labels)) (start_at head (cap (slice_index node (slice_index order k)))) (steps_at steps (slice_index order k))
+      ≡ best_of cap head (slice_index laps) (only (has (take k order)) (label_at labels))
+      (start_at head (cap (slice_index node (slice_index order k)))) (steps_at steps (slice_index order k))
   pub others : (n : ℕ) → has order n ≡ false → label_at labels n ≡ None
 
 -- labels lead from each node of a walk to the next
@@ -43,7 +45,8 @@ toll costs laps n (m ∷ rest) = costs.node n + costs.edge n m + laps m + toll c
 
 -- Labels of one pass over the nodes of a loop's body, and the walk to which they lead from its head, which is kept as the
 -- loop's turn. What the passes after the first cost is told of the head.
-pub record IsTaken (edge : ℕ → ℕ → Bool) (loops : Loops) (one : Loop) (bound place : ℕ) (node : List ℕ) (steps : List (Vec Step Global)) (old new : List ℕ) (before after : List Turn) : Type 0 where
+pub record IsTaken (edge : ℕ → ℕ → Bool) (loops : Loops) (one : Loop) (bound place : ℕ) (node : List ℕ)
+    (steps : List (Vec Step Global)) (old new : List ℕ) (before after : List Turn) : Type 0 where
   pub nodes : List ℕ
   pub sorted : IsOrder edge loops (has one.body.items) nodes
   pub labels : List (Option Label)
@@ -56,7 +59,8 @@ pub record IsTaken (edge : ℕ → ℕ → Bool) (loops : Loops) (one : Loop) (b
   pub turns : after ≡ slice_set before place turn
 
 -- labels of one pass over the nodes of a loop's body say whether the walks inside it cost more than can be told
-pub record IsWeighed (edge : ℕ → ℕ → Bool) (loops : Loops) (one : Loop) (node : List ℕ) (steps : List (Vec Step Global)) (laps : List ℕ) (large : Bool) : Type 0 where
+pub record IsWeighed (edge : ℕ → ℕ → Bool) (loops : Loops) (one : Loop) (node : List ℕ)
+    (steps : List (Vec Step Global)) (laps : List ℕ) (large : Bool) : Type 0 where
   pub nodes : List ℕ
   pub sorted : IsOrder edge loops (has one.body.items) nodes
   pub labels : List (Option Label)

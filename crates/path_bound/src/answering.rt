@@ -52,7 +52,8 @@ pub(crate) fn answered(
     requires nodes { (n : ℕ) → has order.now n ≡ true → n < length graph.now }
     requires once { (k : ℕ) → k < length order.now → has (take k order.now) (slice_index order.now k) ≡ false }
     requires placed { rank_in order.now entry < length order.now }
-    ensures { MatchResult result (IsBest order.now node.now steps.now laps.now start entry) (IsOverOr (is_edge graph.now) loops.now (loops_in loops.now) order.now node.now steps.now laps.now start entry) }
+    ensures { MatchResult result (IsBest order.now node.now steps.now laps.now start entry)
+        (IsOverOr (is_edge graph.now) loops.now (loops_in loops.now) order.now node.now steps.now laps.now start entry) }
 {
     pass(order, None, node, steps, laps, labels);
     let inner = sum(laps[entry as usize], cost_at(labels, entry));

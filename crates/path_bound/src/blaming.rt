@@ -39,7 +39,8 @@ fn is_large(
     requires none { NoLabels labels.old }
     ensures ready { OnOk result (IsReady (length graph.now) ranking.new) }
     ensures none { OnOk result (NoLabels labels.new) }
-    ensures weighed { IfOk result (λ large. (one : NaturalLoop) → slice_get loops.now place ≡ Some one → IsWeighed (is_edge graph.now) (loops_in loops.now) one node.now steps.now laps.now large) }
+    ensures weighed { IfOk result (λ large. (one : NaturalLoop) → slice_get loops.now place ≡ Some one
+        → IsWeighed (is_edge graph.now) (loops_in loops.now) one node.now steps.now laps.now large) }
 {
     let one = &loops[place];
     let order = ranked(alloc, graph, loops, places, ranking, &one.body)?;

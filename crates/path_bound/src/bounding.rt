@@ -33,7 +33,8 @@ pub fn longest(
     requires nest { IsLoopNest (is_edge graph.now) entry nest.now }
     requires bounds { AreBounds nest.now bounds.now }
     requires costs { vec_len costs.now.node ≡ length graph.now }
-    ensures { MatchResult result (IsLongest (is_edge graph.now) entry nest.now bounds.now costs.now) (IsRefusal (is_edge graph.now) entry nest.now bounds.now costs.now) }
+    ensures { MatchResult result (IsLongest (is_edge graph.now) entry nest.now bounds.now costs.now)
+        (IsRefusal (is_edge graph.now) entry nest.now bounds.now costs.now) }
 {
     let _count = graph.count();
     let loops = nest.loops();
