@@ -1,5 +1,5 @@
 ghost use Rattle.std.specs.Prelude.{◌≡◌, ℕ, ◌<◌, ◌≤◌, List, length, IfOk, IsErrOf, vec_len, ◌∷◌, ◌++◌, ◌-◌, ◌+◌, take, drop, min, if◌then◌else◌};
-ghost use Rattle.bt_base.specs.Ask.{IsReading, IsReadTo, WasAsked};
+ghost use Rattle.bt_base.specs.Ask.{IsReading, IsReadTo, NewestGaveNone, WasAsked};
 ghost use Rattle.bt_base.specs.Shelf.{TellsTheSame, NoneFalls, Rose, Told};
 
 use crate::{NoFetch, Shelf, Want};
@@ -35,6 +35,7 @@ fn read_piece<F: Shelf>(
     ensures same { TellsTheSame (F.told shelf.old) (F.told shelf.new) }
     ensures counts { NoneFalls (F.faults shelf.old) (F.faults shelf.new) }
     ensures asked { WasAsked name.now (vec_len bytes.old) (min (limit - vec_len bytes.old) 65535 + 1) (F.asked shelf.old) (F.asked shelf.new) }
+    ensures within_room { IfOk result (λ n. n ≤ min (limit - vec_len bytes.old) 65535 + 1) }
     ensures gave { IfOk result (λ n. F.asked shelf.new ≡ (name.now, vec_len bytes.old, min (limit - vec_len bytes.old) 65535 + 1, n) ∷ F.asked shelf.old) }
     ensures grown { IfOk result (λ n. vec_len bytes.new ≡ vec_len bytes.old + n) }
     ensures given { IfOk result (λ n. Told (F.told shelf.old) name.now (λ told. bytes.new.items ≡ bytes.old.items ++ take n (drop (vec_len bytes.old) told))) }
@@ -56,9 +57,10 @@ fn read_piece<F: Shelf>(
 
 /// The whole of a file of at most `limit` bytes.
 ///
-/// It is `Fault` only where a read of this name failed in this call, and `TooLong` exactly where the file
-/// is longer than `limit`; of a longer file `limit` + 1 bytes are read. Nothing else is asked of the shelf than
-/// this name's bytes in order, each once and up to `limit` + 1.
+/// It is `Fault` only where a read of this name failed in this call, and `TooLong` only where the file is longer
+/// than `limit`, of which `limit` + 1 bytes were given then; such a file may also be `Fault` or `Want`. It is `Ok`
+/// only where the last read gave no byte. Nothing else is asked of the shelf than this name's bytes in order, each
+/// once and up to `limit` + 1, and nothing after a read that gave none.
 pub fn read_all<F: Shelf>(
     alloc: Global,
     shelf: &mut F,
@@ -69,10 +71,12 @@ pub fn read_all<F: Shelf>(
     ensures counts { NoneFalls (F.faults shelf.old) (F.faults shelf.new) }
     ensures asked { IsReading name.now limit (F.asked shelf.old) (F.asked shelf.new) }
     ensures gave { IfOk result (λ bytes. IsReadTo name.now limit (F.asked shelf.old) (F.asked shelf.new) (vec_len bytes)) }
+    ensures end { IfOk result (λ _. NewestGaveNone (F.asked shelf.new)) }
     ensures whole { IfOk result (λ bytes. Told (F.told shelf.old) name.now (λ told. bytes.items ≡ told)) }
     ensures within { IfOk result (λ bytes. vec_len bytes ≤ limit) }
     ensures too_long { (l : ℕ) → IsErrOf result (ReadRefusal.TooLong l) →
         (l ≡ limit) × Told (F.told shelf.old) name.now (λ told. limit < length told) }
+    ensures passed { (l : ℕ) → IsErrOf result (ReadRefusal.TooLong l) → IsReadTo name.now limit (F.asked shelf.old) (F.asked shelf.new) (limit + 1) }
     ensures fault { IsErrOf result ReadRefusal.Fault → Rose (F.faults shelf.old name.now) (F.faults shelf.new name.now) }
 {
     let mut piece = match vec![in alloc; 0u8; PIECE] {

@@ -1,5 +1,5 @@
 use Rattle.std.proofs.Common.{◌∙◌, refl, arith}
-use Rattle.bt_base.proofs.Asks.{read_none, read_more, reading_more}
+use Rattle.bt_base.proofs.Asks.{read_none, read_more, read_on, reading_is, reading_more, read_past, gave_none}
 use Rattle.bt_base.proofs.Fronts.{front_none, within_none, front_more, within_more, front_all, past_limit}
 use Rattle.bt_base.proofs.reading.read_all.Goals as goal
 
@@ -29,7 +29,11 @@ returns-then-count-eq0-clause-asked g c =
 
 pub returns-then-count-eq0-clause-gave : goal.returns-then-count-eq0-clause-gave
 returns-then-count-eq0-clause-gave g c =
-    read_more _ _ _ _ _ _ _ _ c.loop-shelf.invariant.asked (omega arith) c.in_ok-count.ensures.gave c.in_ok-count.ensures.grown
+    read_more _ _ _ _ _ _ _ _ c.loop-shelf.invariant.asked (omega arith) c.in_ok-count.ensures.within_room c.in_ok-count.ensures.gave
+    c.in_ok-count.ensures.grown
+
+pub returns-then-count-eq0-clause-end : goal.returns-then-count-eq0-clause-end
+returns-then-count-eq0-clause-end g c = gave_none _ _ _ c.in_ok-count.ensures.gave (omega arith)
 
 -- a piece of no bytes comes only where the bytes so far are all
 pub returns-then-count-eq0-clause-whole : goal.returns-then-count-eq0-clause-whole
@@ -46,7 +50,8 @@ loop-shelf-preserved g c =
       counts = λ name. omega (arith, c.loop-shelf.invariant.counts name, c.in_ok-count.ensures.counts name);
       piece = c.loop-shelf.invariant.piece;
       front = front_more _ _ _ _ _ _ _ same c.in_ok-count.ensures.grown c.loop-shelf.invariant.front c.in_ok-count.ensures.given;
-      asked = read_more _ _ _ _ _ _ _ _ c.loop-shelf.invariant.asked (omega arith) c.in_ok-count.ensures.gave c.in_ok-count.ensures.grown;
+      asked = read_on _ _ _ _ _ _ _ _ c.loop-shelf.invariant.asked (omega arith) c.in_ok-count.ensures.within_room (omega arith)
+          c.in_ok-count.ensures.gave c.in_ok-count.ensures.grown;
       within = within_more _ _ _ _ _ _ _ same c.loop-shelf.bytes.ok.0 c.read_piece.new.bytes.ok.0 c.in_ok-count.ensures.grown c.loop-shelf.invariant.within
           c.in_ok-count.ensures.given;
     }
@@ -54,3 +59,6 @@ loop-shelf-preserved g c =
 -- a front of more bytes than the limit allows shows that the file is longer
 pub returns-clause-too_long : goal.returns-clause-too_long
 returns-clause-too_long g c = λ l is. (cc, past_limit _ _ _ (omega (arith, c.loop-shelf-test.false)) c.loop-shelf.invariant.within)
+
+pub returns-clause-passed : goal.returns-clause-passed
+returns-clause-passed g c = λ l is. read_past _ _ _ _ _ c.loop-shelf.invariant.asked (omega (arith, c.loop-shelf-test.false))
