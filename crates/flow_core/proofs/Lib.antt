@@ -9,3 +9,4 @@ pub mod WritingLemmas
 pub mod AbsorbLemmas
 pub mod CoreLemmas
 pub mod DriveLemmas
+pub mod PartLemmas

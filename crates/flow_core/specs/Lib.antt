@@ -2,6 +2,7 @@ pub mod Absorb
 pub mod Claim
 pub mod Core
 pub mod Event
+pub mod Passed
 pub mod Queue
 pub mod Readers
 pub mod Refusal

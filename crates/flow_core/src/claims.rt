@@ -8,7 +8,8 @@ use std::marker::Model;
 
 /// A key that is out to be looked at, with copies of the facts that it reads.
 ///
-/// It can't be copied. Only `Core::merge`, of the answer made of it, and `Core::give_back` end it.
+/// It can't be copied. Only `Core::merge`, of the answer made of it, and `Core::give_back` end it; one that is dropped
+/// stays out until the core is driven.
 pub struct Claim<S: System> {
     key: S::Key,
     copies: Facts<S::Key, S::Val>,
@@ -108,7 +109,7 @@ impl<S: System> Answer<S> {
     }
 
     /// The pieces.
-    pub(crate) fn pieces(&self) -> &[(S::Key, S::Val)]
+    pub fn pieces(&self) -> &[(S::Key, S::Val)]
         ensures { result.now ≡ self.now.pieces }
     {
         &self.pieces

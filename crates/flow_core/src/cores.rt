@@ -1,9 +1,9 @@
 ghost use Rattle.std.specs.Prelude.{◌≡◌, ℕ, ◌+◌, ◌<◌, ◌≤◌, ◌↔◌, List, [], IfOk, IfErr, IfSome, IfNone, OnOk, OnErr, MatchOption, IsTrue, IsSome, is_some, IsOk, Contains, true, if◌then◌else◌};
 ghost use Rattle.std.specs.declared.cmp.Ordering.{Ordering};
 ghost use Rattle.flow_system.specs.Facts.{fact_at, KeysRise};
-ghost use Rattle.flow_system.specs.State.{AllFit};
+ghost use Rattle.flow_system.specs.State.{AllDue, AllFit};
 ghost use Rattle.flow_core.specs.Core.{strike};
-ghost use Rattle.flow_core.specs.Queue.{with_mark};
+ghost use Rattle.flow_core.specs.Queue.{IsLeast, with_mark};
 ghost use Rattle.flow_core.specs.Staged.{PiecesFit};
 ghost use Rattle.flow_core.specs.Absorb.{Absorbs};
 ghost use Rattle.flow_system.specs.Laws.{IsLawful};
@@ -110,7 +110,8 @@ impl<S: System> Core<S> {
     ghost use Rattle.flow_core.specs.Claim.{IsClaimOf, IsAnswerOf, IsFresh};
     ghost use Rattle.flow_core.specs.Core.{CoreState, IsKey, IsPending, IsIdle, IsKept, IsUnchanged, IsPart, IsGood, IsGrowth, Joins};
     ghost use Rattle.flow_core.specs.Event.{Takes, Merges, struck, without_claim};
-    ghost use Rattle.flow_core.specs.Refusal.{IsPassing};
+    ghost use Rattle.flow_core.specs.Passed.{passed_over};
+    ghost use Rattle.flow_core.specs.Refusal.{IsPassing, IsTooBig};
 
     /// Joins the pieces to the facts, and makes each key pending that reads a fact that grew.
     ///
@@ -155,6 +156,24 @@ impl<S: System> Core<S> {
         Ok(keys.len())
     }
 
+    /// A core with no facts, whose counted keys may be so many.
+    pub fn empty(alloc: Global, _system: &S, limit: u64) -> Core<S>
+        ensures part { IsPart S.Key.cmp (S.rules _system.now) result }
+        ensures facts { result.facts ≡ [] }
+        ensures marks { result.marks ≡ [] }
+        ensures none_out { result.out ≡ [] }
+        ensures limit { result.limit ≡ limit }
+    {
+        Core {
+            facts: Facts::empty(alloc),
+            queue: Queue::empty(alloc),
+            out: Vec::new(alloc),
+            readers: Readers::empty(alloc),
+            count: 0,
+            limit,
+        }
+    }
+
     /// A core of a system whose counted keys may be so many: the start pieces, all pending.
     ///
     /// Nodes comes exactly where the start pieces alone would pass the limit.
@@ -167,16 +186,53 @@ impl<S: System> Core<S> {
         ensures nodes { IfErr result (IsPassing S.Key.cmp (S.rules system.now) [] (S.rules system.now).starts limit) }
     {
         let starts = system.starts(alloc)?;
-        let mut core = Core {
-            facts: Facts::empty(alloc),
-            queue: Queue::empty(alloc),
-            out: Vec::new(alloc),
-            readers: Readers::empty(alloc),
-            count: 0,
-            limit,
-        };
+        let mut core = Core::empty(alloc, system, limit);
         core.absorb(alloc, system, &starts)?;
         Ok(core)
+    }
+
+    /// Joins pieces that are due to the facts, whoever found them. It answers how many facts grew.
+    ///
+    /// Every key that reads a fact that grew becomes pending. Nodes comes exactly where the counted keys would pass the
+    /// limit; then the due graph has more of them than the limit. After a refusal all is as before.
+    pub fn join(
+        &mut self,
+        alloc: Global,
+        system: &S,
+        pieces: &[(S::Key, S::Val)],
+    ) -> Result<usize, GrowRefusal>
+        requires part { IsPart S.Key.cmp (S.rules system.now) self.old }
+        requires pieces_fit { PiecesFit (S.rules system.now) pieces.now }
+        requires due { AllDue (S.rules system.now) pieces.now }
+        ensures absorbs { IfOk result (Absorbs S.Key.cmp (S.rules system.now) self.old pieces.now self.new) }
+        ensures unchanged { OnErr result (IsUnchanged S.Key.cmp (S.rules system.now) self.old self.new) }
+        ensures nodes { IfErr result (IsPassing S.Key.cmp (S.rules system.now) self.old.facts pieces.now self.old.limit) }
+        ensures too_big { IfErr result (IsTooBig S.Key.cmp (S.rules system.now) self.old.limit) }
+        ensures part { IsPart S.Key.cmp (S.rules system.now) self.new }
+        ensures growth { IsGrowth S.Key.cmp (S.rules system.now) self.old self.new }
+    {
+        self.absorb(alloc, system, pieces)
+    }
+
+    /// The least pending key; None exactly where nothing is pending.
+    pub fn next(&self) -> Option<S::Key>
+        ensures none { IfNone result ((k : S.Key) → IsPending S.Key.cmp self.now k → ⊥) }
+        ensures least { IfSome result (IsLeast S.Key.cmp self.now.marks) }
+    {
+        self.queue.least()
+    }
+
+    /// Takes the least pending key out without looking at it; None exactly where nothing is pending.
+    ///
+    /// No claim of it is made: it is pending again once a fact that it reads has grown.
+    pub fn pass_over(&mut self) -> Option<S::Key>
+        ensures none { IfNone result ((k : S.Key) → IsPending S.Key.cmp self.old k → ⊥) }
+        ensures unchanged { IfNone result (self.new ≡ self.old) }
+        ensures least { IfSome result (IsLeast S.Key.cmp self.old.marks) }
+        ensures passed { IfSome result (λ k. self.new ≡ passed_over S.Key.cmp self.old k) }
+        ensures part { (m : Rules S.Key S.Val) → IsLawful S.Key.cmp m → IsPart S.Key.cmp m self.old → IsPart S.Key.cmp m self.new }
+    {
+        self.queue.take_least()
     }
 
     /// Takes the least pending key out to be looked at, with copies of the facts that it reads; None
@@ -302,6 +358,13 @@ impl<S: System> Core<S> {
         ensures { result.now ≡ self.now.facts }
     {
         &self.facts
+    }
+
+    /// How many of the facts' keys may be counted ones.
+    pub fn limit(&self) -> u64
+        ensures { result ≡ self.now.limit }
+    {
+        self.limit
     }
 
     /// The facts of an idle core; Err, with the core as it was, exactly where it isn't idle.

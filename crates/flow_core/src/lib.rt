@@ -15,4 +15,4 @@ pub use claims::{Answer, Claim};
 pub use cores::{Closed, Core};
 pub use driving::drive;
 pub use refusals::GrowRefusal;
-pub use theorems::every_run_is_good;
+pub use theorems::{due_facts_are_one, every_run_is_good};

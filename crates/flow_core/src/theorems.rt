@@ -1,5 +1,5 @@
-ghost use Rattle.std.specs.Prelude.{List};
-ghost use Rattle.flow_system.specs.Facts.{fact_at};
+ghost use Rattle.std.specs.Prelude.{◌≡◌, List};
+ghost use Rattle.flow_system.specs.Facts.{fact_at, KeysRise};
 ghost use Rattle.flow_system.specs.State.{IsBelow, IsDueGraph};
 ghost use Rattle.flow_core.specs.Core.{CoreState, IsGood, IsIdle};
 ghost use Rattle.flow_core.specs.Event.{Event, IsRun};
@@ -23,4 +23,12 @@ pub fn every_run_is_good<S: System>(_system: &S)
         → IsRun S.Key.cmp (S.rules _system.now) events first last
         → IsIdle S.Key.cmp last
         → IsDueGraph (S.rules _system.now) (fact_at S.Key.cmp last.facts) }
+{}
+
+/// The entries of the due graph are one list, where their keys rise.
+pub fn due_facts_are_one<S: System>(_system: &S)
+    ensures { (facts others : List (S.Key × S.Val)) → KeysRise S.Key.cmp facts → KeysRise S.Key.cmp others
+        → IsDueGraph (S.rules _system.now) (fact_at S.Key.cmp facts)
+        → IsDueGraph (S.rules _system.now) (fact_at S.Key.cmp others)
+        → facts ≡ others }
 {}

@@ -14,6 +14,26 @@ module _ {K V : Type 0} (m : Rules K V) where
   pub due_has_key : (k : K) (v : V) → IsDue m k v → IsDueKey m k
   due_has_key k v due s closed = let p = due s closed in has_key (s k) p.fact p.found
 
+module _ {K V : Type 0} (cmp : K → K → Ordering) (m : Rules K V) (law : IsLawful cmp m) where
+  -- the facts of two due graphs at a key are the same
+  pub graph_same : (s t : K → Option V) → IsDueGraph m s → IsDueGraph m t → (k : K) → s k ≡ t k
+  graph_same s t first second k = same_cases (s k) (t k) refl refl
+    where
+      fact_same : (v w : V) → s k ≡ Some v → t k ≡ Some w → v ≡ w
+      fact_same v w here there =
+          let up = first.least k v here t second.closed in
+          let down = second.least k w there s first.closed in
+          let is_w : up.fact ≡ w = let found = up.found in cc in
+          let is_v : down.fact ≡ v = let found = down.found in cc in
+          law.order.both k v w (first.closed.fit k v here) (second.closed.fit k w there) (subst (λ x. IsTrue (m.at_most v x)) is_w up.above)
+          (subst (λ x. IsTrue (m.at_most w x)) is_v down.above)
+
+      same_cases : (o p : Option V) → s k ≡ o → t k ≡ p → s k ≡ t k
+      same_cases None None here there = cc
+      same_cases None (Some w) here there = let found = (second.least k w there s first.closed).found in absurd (cc)
+      same_cases (Some v) None here there = let found = (first.least k v here t second.closed).found in absurd (cc)
+      same_cases (Some v) (Some w) here there = let is = fact_same v w here there in cc
+
 module _ {K V : Type 0} (test : K → V → Bool) where
   -- a fact, where it passes
   abbrev pub kept : K → Option V → Option V

@@ -9,6 +9,12 @@ pub fn due_keys<S: System>(_system: &S)
     ensures { (k : S.Key) (v : S.Val) → IsDue (S.rules _system.now) k v → IsDueKey (S.rules _system.now) k }
 {}
 
+/// There is at most one due graph: two have the same fact at each key, or none.
+pub fn due_graph_is_one<S: System>(_system: &S)
+    ensures { (s t : S.Key → Option S.Val) → IsDueGraph (S.rules _system.now) s → IsDueGraph (S.rules _system.now) t
+        → (k : S.Key) → s k ≡ t k }
+{}
+
 /// An induction over what is due: a test of pieces that the start pieces pass, that a greater fact keeps, and that each
 /// key whose fact passes hands on to what it gives, holds wherever a piece is due, in every closed state; so each fact of
 /// the due graph passes it. A test of keys alone is kept by a greater fact.

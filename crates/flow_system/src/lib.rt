@@ -4,8 +4,10 @@
 
 mod facts;
 mod laws;
+mod parted;
 mod system;
 
 pub use facts::Facts;
-pub use laws::{due_keys, due_passes, finer_is_below};
+pub use laws::{due_graph_is_one, due_keys, due_passes, finer_is_below};
+pub use parted::{PARTS, Parted};
 pub use system::{Name, System};
