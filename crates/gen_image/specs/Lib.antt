@@ -1,0 +1,7 @@
+pub mod Code
+pub mod File
+pub mod Layout
+pub mod Name
+pub mod Number
+pub mod Section
+pub mod Symbol
