@@ -1,2 +1,3 @@
 pub mod Eaches
+pub mod Places
 pub mod Sizes

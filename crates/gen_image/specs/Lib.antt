@@ -1,5 +1,6 @@
 pub mod Code
 pub mod File
+pub mod Law
 pub mod Layout
 pub mod Name
 pub mod Number

@@ -1,4 +1,5 @@
-//! The numbers of the generic ABI (System V ABI, "Object Files") that stand in the file, by its names for them.
+//! The numbers that stand in the file: those of the generic ABI (System V ABI, "Object Files"), by its names for them,
+//! and where its own sections are.
 
 /// What identifies an object file: its magic number, 32 bits, the highest byte first, and the version of the header.
 pub const IDENT: [u8; 16] = [0x7f, b'E', b'L', b'F', 1, 2, 1, 0, 0, 0, 0, 0, 0, 0, 0, 0];
@@ -34,3 +35,5 @@ pub const TEXT: u16 = 1;
 pub const STRTAB: u16 = 3;
 /// How many sections there are: the null section, the code, the symbols, the strings.
 pub const SECTIONS: u16 = 4;
+/// The address at which the code begins.
+pub const CODE_ADDRESS: u32 = 0x0200_0000;

@@ -2,6 +2,7 @@
 ghost use Rattle.std.specs.Prelude.{◌≡◌, ◌++◌, ◌+◌, ◌^◌, ◌<◌, ◌≤◌, OnOk};
 ghost use Rattle.gen_image.specs.Code.{call_at, call_code, call_word, count_of, function_at};
 
+use crate::abi::CODE_ADDRESS;
 use crate::words::put_words;
 use bt_base::Want;
 
@@ -10,7 +11,7 @@ pub fn function_at(k: u32) -> u32
     requires { k ≤ 4000 }
     ensures { result ≡ function_at k }
 {
-    0x0200_0000 + 20 * k
+    CODE_ADDRESS + 20 * k
 }
 
 /// How often the loop of function `k` runs: from 1 to 100 times.
@@ -36,5 +37,8 @@ pub fn put_call(out: &mut Vec<u8>, n: u32, k: u32) -> Result<(), Want>
     ensures { OnOk result (out.new.items ≡ out.old.items ++ call_code n k) }
 {
     let from = function_at(n) + 4 + 8 * k;
-    put_words(out, &[call_word(from, function_at(k)), 0x9010_2000 + count_of(k)])
+    put_words(
+        out,
+        &[call_word(from, function_at(k)), 0x9010_2000 + count_of(k)],
+    )
 }

@@ -14,7 +14,13 @@ fn put_function(out: &mut Vec<u8>) -> Result<(), Want>
 {
     put_words(
         out,
-        &[0x90a2_2001, 0x12bf_ffff, 0x0100_0000, 0x81c3_e008, 0x0100_0000],
+        &[
+            0x90a2_2001,
+            0x12bf_ffff,
+            0x0100_0000,
+            0x81c3_e008,
+            0x0100_0000,
+        ],
     )
 }
 

@@ -3,7 +3,7 @@ ghost use Rattle.std.specs.Prelude.{◌≡◌, ◌++◌, OnOk};
 ghost use Rattle.gen_image.specs.File.{header};
 
 use crate::abi::{
-    EHDR_SIZE, EM_SPARC, ET_EXEC, EV_CURRENT, IDENT, SECTIONS, SHDR_SIZE, STRTAB,
+    CODE_ADDRESS, EHDR_SIZE, EM_SPARC, ET_EXEC, EV_CURRENT, IDENT, SECTIONS, SHDR_SIZE, STRTAB,
 };
 use crate::words::{put_halves, put_words};
 use bt_base::Want;
@@ -15,6 +15,6 @@ pub fn put_header(out: &mut Vec<u8>, sections: u32) -> Result<(), Want>
 {
     out.extend_from_slice(&IDENT)?;
     put_halves(out, &[ET_EXEC, EM_SPARC])?;
-    put_words(out, &[EV_CURRENT, 0x0200_0000, 0, sections, 0])?;
+    put_words(out, &[EV_CURRENT, CODE_ADDRESS, 0, sections, 0])?;
     put_halves(out, &[EHDR_SIZE, 0, 0, SHDR_SIZE, SECTIONS, STRTAB])
 }

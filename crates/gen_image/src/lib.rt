@@ -6,6 +6,7 @@ mod abi;
 mod calls;
 mod code;
 mod header;
+mod laws;
 mod layout;
 mod making;
 mod names;
@@ -13,4 +14,7 @@ mod sections;
 mod symbols;
 mod words;
 
+pub use laws::{
+    calls_lead_to_their_functions, functions_have_their_code, symbols_have_their_names,
+};
 pub use making::make;

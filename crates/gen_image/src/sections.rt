@@ -5,7 +5,7 @@ ghost use Rattle.gen_image.specs.Layout.{layout_of};
 ghost use Rattle.gen_image.specs.Section.{section_bytes, null_section, text_section, symbol_section, string_section};
 
 use crate::abi::{
-    CODE, EHDR_SIZE, SHT_PROGBITS, SHT_STRTAB, SHT_SYMTAB, STRTAB, SYM_SIZE,
+    CODE, CODE_ADDRESS, EHDR_SIZE, SHT_PROGBITS, SHT_STRTAB, SHT_SYMTAB, STRTAB, SYM_SIZE,
 };
 use crate::layout::Layout;
 use crate::words::put_words;
@@ -51,7 +51,7 @@ fn text_section(offset: u32, size: u32) -> SectionHeader
     SectionHeader {
         kind: SHT_PROGBITS,
         flags: CODE,
-        address: 0x0200_0000,
+        address: CODE_ADDRESS,
         offset,
         size,
         link: 0,

@@ -6,7 +6,7 @@ use Rattle.gen_image.proofs.Sizes.{first_name, next_name}
 use Rattle.gen_image.proofs.symbols.put_functions.Goals as goal
 
 pub loop-k-init : goal.loop-k-init
-loop-k-init c = record { bytes = search rules; next = sym first_name; short = omega arith; }
+loop-k-init c = record { bytes = search rules; next = sym first_name; short = omega arith }
 
 pub loop-k-preserved : goal.loop-k-preserved
 loop-k-preserved c =
