@@ -4,7 +4,7 @@ use Rattle.std.proofs.lemmas.Bool.{cases_lt}
 use Rattle.std.proofs.lemmas.List.{take-append-le, append-nil}
 use Rattle.std.proofs.lemmas.List.Prefix.{front_rest}
 use Rattle.gen_image.specs.Code.{function_at, function_code, call_at, call_word, main_code, text}
-use Rattle.gen_image.specs.File.{header, file_of, sections}
+use Rattle.gen_image.specs.File.{header, file_of}
 use Rattle.gen_image.specs.Law.{called_from}
 use Rattle.gen_image.specs.Layout.{layout_of}
 use Rattle.gen_image.specs.Name.{function_name, name_at, strings}

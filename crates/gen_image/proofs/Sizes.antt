@@ -1,5 +1,5 @@
 -- The sizes of the parts.
-use Rattle.std.proofs.Common.{◌≡◌, ℕ, zero, suc, ◌+◌, ◌*◌, ◌^◌, ◌≤◌, ◌<◌, List, [], ◌∷◌, ◌++◌, length, refl, sym, ap, ◌∙◌, arith, add-one, decimal, codes, length-append}
+use Rattle.std.proofs.Common.{◌≡◌, ℕ, ◌+◌, ◌*◌, ◌≤◌, ◌<◌, [], ◌∷◌, ◌++◌, length, refl, ◌∙◌, arith, add-one, decimal, codes, length-append}
 use Rattle.std.proofs.lemmas.Fmt.{length-decimal-le}
 use Rattle.gen_image.specs.Code.{function_code, call_code, main_code, text}
 use Rattle.gen_image.specs.Name.{function_name, names_before, name_at, strings}

@@ -1,5 +1,5 @@
 -- What stands where in the file, as laws.
-use Rattle.std.specs.Prelude.{◌≡◌, ℕ, ◌+◌, ◌*◌, ◌%◌, ◌^◌, ◌<◌, ◌≤◌, List, length, take, drop}
+use Rattle.std.specs.Prelude.{◌≡◌, ℕ, ◌+◌, ◌*◌, ◌%◌, ◌^◌, ◌<◌, ◌≤◌, length, take, drop}
 use Rattle.gen_image.specs.Code.{function_at, function_code, call_at, call_word}
 use Rattle.gen_image.specs.File.{file_of}
 use Rattle.gen_image.specs.Name.{function_name, name_at, strings}

@@ -1,5 +1,5 @@
 -- The headers of sections (System V ABI, "Object Files", "Sections").
-use Rattle.std.specs.Prelude.{ℕ, List, [], ◌∷◌, ◌++◌}
+use Rattle.std.specs.Prelude.{ℕ, List, [], ◌∷◌}
 use Rattle.gen_image.specs.Number.{words_of}
 use Rattle.gen_image.specs.declared.sections.SectionHeader.{SectionHeader}
 

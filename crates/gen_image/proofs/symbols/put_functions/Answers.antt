@@ -1,4 +1,4 @@
-use Rattle.std.proofs.Common.{◌≡◌, ◌++◌, ap, sym, ◌∙◌, arith, rules}
+use Rattle.std.proofs.Common.{◌++◌, ap, sym, ◌∙◌, arith, rules}
 use Rattle.gen_image.specs.Symbol.{symbol_bytes, function_symbol}
 use Rattle.gen_image.specs.declared.symbols.Symbol.{Symbol}
 use Rattle.gen_image.proofs.Eaches.{grown}
