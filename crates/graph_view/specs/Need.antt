@@ -99,3 +99,8 @@ IsStuck places callings subs table k =
 pub record AreNeeds (places : List Place) (callings : List Calling) (subs : List ℕ) (table : List (Option ℕ)) : Type 0 where
   pub count : length table ≡ length subs
   pub each : (k : ℕ) → k < length subs → IsNeed places callings (slice_index_or subs k 0) (slice_index_or table k None)
+
+-- each caller is listed, and the list rises
+pub record AreCallers (callings : List Calling) (subs : List ℕ) : Type 0 where
+  pub rising : IsStrictlyIncreasing subs
+  pub listed : (calling : Calling) → Contains callings calling → Contains subs calling.from.sub

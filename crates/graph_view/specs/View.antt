@@ -30,10 +30,10 @@ by_kind keys = record {
 }
 
 -- a step leads from a program point to another of the same subprogram
-pub record StepStands (keys : List Key) (from to : Place) : Type 0 where
-  pub begins : Contains keys (Node from)
-  pub ends : Contains keys (Node to)
-  pub one : from.sub ≡ to.sub
+pub record StepStands (keys : List Key) (begin end : Place) : Type 0 where
+  pub from : Contains keys (Node begin)
+  pub to : Contains keys (Node end)
+  pub one : begin.sub ≡ end.sub
 
 -- Keys that a view can be made of: they rise, name no more than one window down and fewer than 2^32 program points, and
 -- have the program points of all steps and calls.
