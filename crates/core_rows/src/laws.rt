@@ -3,14 +3,14 @@ ghost use Rattle.std.specs.Prelude.{◌≡◌, ◌≤◌, ◌∷◌, [], ℕ, Li
 ghost use Rattle.std.specs.Ordering.{nat_cmp};
 ghost use Rattle.flow_system.specs.Due.{IsDueKey};
 ghost use Rattle.flow_system.specs.State.{IsBelow, IsDueGraph};
-ghost use Rattle.local_facts.specs.Restricted.{IsLeastLocal, IsRestriction};
+ghost use Rattle.local_facts.specs.Restricted.{IsLeastLocal, IsRestriction, restricted};
 ghost use Rattle.core_rows.specs.Relay.{relay};
 ghost use Rattle.core_rows.specs.Ring.{ring};
 
 use crate::relay::Relay;
 use crate::ring::Ring;
-use flow_system::{due_keys, due_passes, finer_is_below};
-use local_facts::local_passes;
+use flow_system::{due_graph_is_one, due_keys, due_passes, finer_is_below};
+use local_facts::{due_is_least, least_is_one, local_passes};
 use std::test::Fail;
 
 /// The first key of a ring is due.
@@ -50,6 +50,33 @@ fn kept_are_within(system: &Relay)
     local_passes(system);
 }
 
+/// A ring has at most one due graph.
+fn graph_is_one(system: &Ring)
+    ensures { (s t : ℕ → Option ℕ) → IsDueGraph (ring system.now.last system.now.second) s
+        → IsDueGraph (ring system.now.last system.now.second) t → (k : ℕ) → s k ≡ t k }
+{
+    due_graph_is_one(system);
+}
+
+/// A restricted relay has at most one least map.
+fn map_is_one(system: &Relay)
+    ensures { (v : ℕ) (keep : List ℕ) (fixed : List (ℕ × ℕ)) (s t : ℕ → Option ℕ)
+        → IsLeastLocal nat_cmp (relay system.now.last) ((0, v) ∷ []) keep fixed s
+        → IsLeastLocal nat_cmp (relay system.now.last) ((0, v) ∷ []) keep fixed t → (k : ℕ) → s k ≡ t k }
+{
+    least_is_one(system);
+}
+
+/// The due graph of a restricted relay is its least map.
+fn graph_is_map(system: &Relay)
+    ensures { (v : ℕ) (keep : List ℕ) (fixed : List (ℕ × ℕ)) (s : ℕ → Option ℕ)
+        → IsRestriction nat_cmp (relay system.now.last) ((0, v) ∷ []) keep fixed
+        → IsDueGraph (restricted nat_cmp (relay system.now.last) ((0, v) ∷ []) keep fixed) s
+        → IsLeastLocal nat_cmp (relay system.now.last) ((0, v) ∷ []) keep fixed s }
+{
+    due_is_least(system);
+}
+
 #[test]
 fn laws_have_instances(rt: HostRuntime) -> Result<(), Fail> {
     let system = Ring { last: 4, second: 2 };
@@ -57,6 +84,9 @@ fn laws_have_instances(rt: HostRuntime) -> Result<(), Fail> {
     keys_are_within(&system);
     graphs_are_below(&system, &Ring { last: 4, second: 2 });
     kept_are_within(&Relay { last: 4 });
+    graph_is_one(&system);
+    map_is_one(&Relay { last: 4 });
+    graph_is_map(&Relay { last: 4 });
     assert_eq!(rt; system.last, 4);
     Ok(())
 }

@@ -1,0 +1,3 @@
+mod Acts
+mod Aligning
+mod Directions
