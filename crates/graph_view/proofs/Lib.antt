@@ -1,3 +1,11 @@
+pub mod CallGraphs
+pub mod Filling
+pub mod Keyed
+pub mod Known
+pub mod Numbered
 pub mod Owners
 pub mod Ranges
+pub mod Recursion
+pub mod Rounds
+pub mod Sited
 pub mod Stands

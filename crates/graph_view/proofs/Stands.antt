@@ -1,23 +1,22 @@
 -- Each key stands in the list of its kind, and the lists have nothing else.
-use Rattle.std.proofs.Common.{◌≡◌, ℕ, zero, suc, ◌<◌, ◌⊎◌, inl, inr, List, [], ◌∷◌, ◌++◌, length, get_or, refl, ap, sym, ◌∙◌, subst, arith}
+use Rattle.std.proofs.Common.{◌≡◌, zero, suc, ◌⊎◌, inl, inr, List, [], ◌∷◌, ◌++◌, refl, ap, sym, subst, arith}
 use Rattle.std.specs.List.{flat_map}
 use Rattle.std.specs.Prelude.{Contains}
-use Rattle.abs_state.specs.declared.key.GapKind.{GapKind}
 use Rattle.abs_state.specs.declared.key.Key.{Key}
 use Rattle.abs_state.specs.declared.key.Key.TheVariants.{Node, Edge, Call, Summary, Gap}
 use Rattle.abs_state.specs.declared.key.Place.{Place}
-use Rattle.graph_view.specs.Laws.{StandInLists, KeysStandInLists}
+use Rattle.graph_view.specs.Laws.{KeysStandInLists}
 use Rattle.graph_view.specs.Lists.{place_in, step_in, calling_in, open_in}
 use Rattle.graph_view.specs.declared.lists.Calling.{Calling}
 use Rattle.graph_view.specs.declared.lists.OpenPoint.{OpenPoint}
 use Rattle.graph_view.specs.declared.lists.Step.{Step}
 
 -- a list has an item, for recursion
-abbrev Has : {X : Type 0} → List X → X → Type 0
+abbrev pub Has : {X : Type 0} → List X → X → Type 0
 Has [] x = ⊥
 Has (y ∷ ys) x = (y ≡ x) ⊎ Has ys x
 
-has_from : {X : Type 0} (xs : List X) (x : X) → Contains xs x → Has xs x
+pub has_from : {X : Type 0} (xs : List X) (x : X) → Contains xs x → Has xs x
 has_from [] x (k, less, is) = absurd (omega (arith, less))
 has_from (y ∷ ys) x (zero, less, is) = inl is
 has_from (y ∷ ys) x (suc k, less, is) = inr (has_from ys x (k, omega (arith, less), is))
@@ -25,21 +24,21 @@ has_from (y ∷ ys) x (suc k, less, is) = inr (has_from ys x (k, omega (arith, l
 behind_one : {X : Type 0} (y : X) (ys : List X) (x : X) → Contains ys x → Contains (y ∷ ys) x
 behind_one y ys x (k, less, is) = (suc k, omega (arith, less), is)
 
-has_to : {X : Type 0} (xs : List X) (x : X) → Has xs x → Contains xs x
+pub has_to : {X : Type 0} (xs : List X) (x : X) → Has xs x → Contains xs x
 has_to [] x has = absurd has
 has_to (y ∷ ys) x (inl is) = (0, omega arith, is)
 has_to (y ∷ ys) x (inr has) = behind_one y ys x (has_to ys x has)
 
-has_front : {X : Type 0} (xs ys : List X) (x : X) → Has xs x → Has (xs ++ ys) x
+pub has_front : {X : Type 0} (xs ys : List X) (x : X) → Has xs x → Has (xs ++ ys) x
 has_front [] ys x has = absurd has
 has_front (y ∷ xs) ys x (inl is) = inl is
 has_front (y ∷ xs) ys x (inr has) = inr (has_front xs ys x has)
 
-has_back : {X : Type 0} (xs ys : List X) (x : X) → Has ys x → Has (xs ++ ys) x
+pub has_back : {X : Type 0} (xs ys : List X) (x : X) → Has ys x → Has (xs ++ ys) x
 has_back [] ys x has = has
 has_back (y ∷ xs) ys x has = inr (has_back xs ys x has)
 
-has_either : {X : Type 0} (xs ys : List X) (x : X) → Has (xs ++ ys) x → Has xs x ⊎ Has ys x
+pub has_either : {X : Type 0} (xs ys : List X) (x : X) → Has (xs ++ ys) x → Has xs x ⊎ Has ys x
 has_either [] ys x has = inr has
 has_either (y ∷ xs) ys x (inl is) = inl (inl is)
 has_either (y ∷ xs) ys x (inr has) = elim (has_either xs ys x has) [ inl front ↦ inl (inr front) | inr back ↦ inr back ]

@@ -1,3 +1,10 @@
+pub mod CallGraph
+pub mod Cycles
+pub mod Details
 pub mod Laws
 pub mod Lists
+pub mod Need
+pub mod Numbers
+pub mod Sites
 pub mod Subs
+pub mod View

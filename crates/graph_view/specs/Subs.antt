@@ -1,5 +1,5 @@
 -- What is of one subprogram, and which subprograms have program points.
-use Rattle.std.specs.Prelude.{◌≡◌, ℕ, ◌==◌, ◌↔◌, List, Contains, map}
+use Rattle.std.specs.Prelude.{ℕ, ◌==◌, List, Contains, map}
 use Rattle.std.specs.List.{filter}
 use Rattle.std.specs.List.Sorted.{IsNonDecreasingBy, IsStrictlyIncreasing}
 use Rattle.abs_state.specs.declared.key.Place.{Place}

@@ -1,4 +1,4 @@
-use Rattle.std.proofs.Common.{◌≡◌, List, map, subst, sym}
+use Rattle.std.proofs.Common.{◌≡◌, map, subst, sym}
 use Rattle.std.specs.Prelude.{Contains}
 use Rattle.graph_view.proofs.subs.subs_of.Goals as goal
 use Rattle.graph_view.specs.Subs.{place_sub}

@@ -1,0 +1,4 @@
+pub mod Bounded
+pub mod Pigeons
+pub mod PlainBounds
+pub mod Told

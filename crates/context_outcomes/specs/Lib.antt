@@ -1,0 +1,11 @@
+pub mod Setting
+pub mod Arguments
+pub mod Inside
+pub mod Calls
+pub mod Spending
+pub mod Counting
+pub mod Heads
+pub mod Bounding
+pub mod Outcomes
+pub mod Refusals
+pub mod Laws

@@ -1,0 +1,6 @@
+use Rattle.std.proofs.Common.{arith}
+use Rattle.cyclic_parts.proofs.Splits.{closed_marks}
+use Rattle.cyclic_parts.proofs.marking.close.Goals as goal
+
+pub returns : goal.returns
+returns c = λ n. closed_marks c.args.opened.now c.clear.new.marks c.args.part.now c.args.node n (omega (arith, c.requires.node, c.clear.auto.marks)) c.clear.ensures
