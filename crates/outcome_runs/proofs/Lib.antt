@@ -13,3 +13,5 @@ pub mod Changing
 pub mod Lows
 pub mod Counting
 pub mod Spending
+pub mod Reaching
+pub mod Telling

@@ -10,9 +10,15 @@ use Rattle.frame_laws.specs.Context.{IsSound}
 use Rattle.sparc_machine.specs.declared.machine.Machine.{Machine}
 use Rattle.stack_laws.specs.Followed.{IsBeforeGaps}
 use Rattle.wcet_report.specs.declared.outcome.Outcome.{Outcome}
+use Rattle.wcet_report.specs.declared.outcome.Outcomes.{Outcomes}
+use Rattle.context_outcomes.specs.Outcomes.{AreOutcomes}
 use Rattle.context_outcomes.specs.Setting.{Setting, facts_in}
 use Rattle.outcome_runs.specs.Family.{address_of, contexts_of}
 use Rattle.outcome_runs.specs.Told.{IsKnown, IsRootAt, Told}
+
+-- outcomes of a program's contexts are told
+abbrev pub OutcomesAreTold : Type 0
+OutcomesAreTold = (S : Setting) (outcomes : Outcomes) → AreOutcomes S outcomes → Told S outcomes.list
 
 -- the contexts of outcomes have their graphs filled in
 abbrev pub OutcomesAreFilled : Type 0

@@ -6,9 +6,15 @@ ghost use Rattle.outcome_runs.specs.Laws.{
   OutcomesAreContexts,
   OutcomesAreFilled,
   OutcomesAreSound,
+  OutcomesAreTold,
   OutcomesCount,
   RunsSpendOutcomes,
 };
+
+/// The outcomes of a program's contexts, with what shows them: where each call leads, and where the context of each root stands.
+pub fn outcomes_are_told()
+    ensures { OutcomesAreTold }
+{}
 
 /// The contexts of outcomes have their graphs filled in: calls, entries, edges and costs are those of their facts.
 pub fn outcomes_are_filled()

@@ -8,5 +8,6 @@ mod laws;
 
 pub use laws::{
     bounded_roots_meet_no_gap, bounded_runs_spend, outcomes_are_asserted, outcomes_are_contexts,
-    outcomes_are_filled, outcomes_are_sound, outcomes_count, runs_spend_outcomes,
+    outcomes_are_filled, outcomes_are_sound, outcomes_are_told, outcomes_count,
+    runs_spend_outcomes,
 };
