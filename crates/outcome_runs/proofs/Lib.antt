@@ -1,0 +1,17 @@
+pub mod Numbering
+pub mod OwnKeys
+pub mod Trimming
+pub mod Filling
+pub mod Heads
+pub mod Sounding
+pub mod Asserting
+pub mod Entries
+pub mod Contextual
+pub mod Ungapped
+pub mod Amounts
+pub mod Changing
+pub mod Lows
+pub mod Counting
+pub mod Spending
+pub mod Reaching
+pub mod Telling
