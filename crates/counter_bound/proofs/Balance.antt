@@ -1,5 +1,5 @@
 -- A walk inside a body that comes back to a node but not to the head stays in one loop inside.
-use Rattle.std.proofs.Common.{◌≡◌, ◌≢◌, ◌==◌, ◌&&◌, ◌||◌, ◌+◌, inl, inr, ℕ, Bool, true, false, not, List, [], ◌∷◌, ◌++◌, refl, sym, ap, subst, ◌∙◌, arith}
+use Rattle.std.proofs.Common.{◌≡◌, ◌≢◌, ◌==◌, ◌&&◌, ◌+◌, inl, inr, ℕ, Bool, true, false, not, List, [], ◌∷◌, ◌++◌, refl, sym, ap, subst, ◌∙◌, arith}
 use Rattle.std.proofs.lemmas.Bool.{eq-eqb}
 use Rattle.std.proofs.lemmas.Bool.Decides.{eqb_tells}
 use Rattle.bt_base.specs.Graph.{has}
@@ -8,7 +8,6 @@ use Rattle.graph_laws.specs.Loops.{edges_inside}
 use Rattle.graph_laws.specs.Nest.{cut, edges_below, Reaches, SamePart, InScope, IsHead, IsChain, HasHead, Nest, IsNest}
 use Rattle.graph_laws.specs.Counter.{Changes}
 use Rattle.graph_laws.proofs.Nests.{two_true, reach-trans, part-sym, part-trans, step_reaches, end_free, head_of_itself, scope_of_part, parts_below, neither}
-use Rattle.graph_laws.proofs.Stretches.{both}
 use Rattle.graph_laws.proofs.Walks.{passes_here, passes_other}
 
 -- a loop inside another one
@@ -29,9 +28,10 @@ below_walk : (edge : ℕ → ℕ → Bool) (body : ℕ → Bool) (h n last : ℕ
 below_walk edge body h n last [] a l p w =
     (two_true (edges_inside edge body n last) (not (n == h) && not (last == h)) w.0 (two_true (not (n == h)) (not (last == h)) (ap not a) (ap not l)), tt)
 below_walk edge body h n last (m ∷ rest) a l p w =
-    let q = not_head h m rest p in
-    (two_true (edges_inside edge body n m) (not (n == h) && not (m == h)) w.0 (two_true (not (n == h)) (not (m == h)) (ap not a) (ap not q.0)),
-    below_walk edge body h m last rest q.0 l q.1 w.1)
+    let q = not_head h m rest p in (
+      two_true (edges_inside edge body n m) (not (n == h) && not (m == h)) w.0 (two_true (not (n == h)) (not (m == h)) (ap not a) (ap not q.0)),
+      below_walk edge body h m last rest q.0 l q.1 w.1,
+    )
 
 module _ (edge : ℕ → ℕ → Bool) (entry : ℕ) (nest : Nest) (is : IsNest edge entry nest) (h : ℕ) (loop : nest.has h ≡ true) where
   abbrev below : ℕ → ℕ → Bool

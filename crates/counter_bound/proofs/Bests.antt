@@ -1,11 +1,11 @@
 -- The best bound of the cells gone through.
-use Rattle.std.proofs.Common.{◌≡◌, ◌+◌, ◌<◌, ◌≤◌, inl, inr, ℕ, Bool, true, false, cond, Option, Some, None, List, refl, sym, ap, subst, ◌∙◌, arith}
+use Rattle.std.proofs.Common.{◌≡◌, ◌+◌, ◌<◌, ◌≤◌, inl, inr, ℕ, Bool, cond, Option, Some, None, List, sym, ap, subst, ◌∙◌, arith}
 use Rattle.std.proofs.lemmas.Bool.{cases_lt, ltb-true, ltb-false}
 use Rattle.std.specs.Prelude.{nat_lt}
 use Rattle.abs_state.specs.State.{State, cell_at}
 use Rattle.abs_state.specs.declared.head_bound.HeadBound.{HeadBound}
 use Rattle.counter_bound.specs.Best.{better_of}
-use Rattle.counter_bound.specs.Counts.{CellCounts, IsCellBound, IsNoMore, IsBest, IsBestOrNone, IsHeadBound, IsBoundOrNone, signed, passes_by}
+use Rattle.counter_bound.specs.Counts.{CellCounts, IsCellBound, IsNoMore, IsBest, IsBestOrNone, signed, passes_by}
 use Rattle.counter_bound.specs.declared.change.Change.{Change}
 use Rattle.counter_bound.proofs.Counters.{one_count}
 use Rattle.graph_laws.specs.Loops.{Loops}
@@ -26,22 +26,6 @@ module _ (edge : ℕ → ℕ → Bool) (loops : Loops) (head : ℕ) (changes : L
     lo = lo ∙ ap (λ (x : ℕ). number_at (low_end (cell_at state x))) (sym e);
     hi = hi ∙ ap (λ (x : ℕ). number_at (high_end (cell_at state x))) (sym e);
     passes = passes ∙ ap (λ (x : ℕ). passes_by state x by) (sym e);
-  }
-
-  -- a cell more that doesn't count
-  pub best_skip : (cell : ℕ) (best : Option HeadBound) → ((step : TurnStep) → CellCounts edge loops head changes cell step → ⊥)
-      → IsBestOrNone edge loops head changes state cell best → IsBestOrNone edge loops head changes state (cell + 1) best
-  best_skip cell None none so = λ c step l counts. elim (cases_lt c cell) [
-    | inl a ↦ so c step a counts
-    | inr a ↦ none step (subst (λ (x : ℕ). CellCounts edge loops head changes x step) (let e : c ≡ cell = omega (arith, l, a) in e) counts)
-  ]
-  best_skip cell (Some bound) none so = record {
-    low = (let l : bound.cell < cell = so.low in omega (arith, l));
-    is = so.is;
-    best = λ c step l counts. elim (cases_lt c cell) [
-      | inl a ↦ so.best c step a counts
-      | inr a ↦ absurd (none step (subst (λ (x : ℕ). CellCounts edge loops head changes x step) (let e : c ≡ cell = omega (arith, l, a) in e) counts))
-    ];
   }
 
   -- the passes of a cell are those of its bound
@@ -110,12 +94,3 @@ module _ (edge : ℕ → ℕ → Bool) (loops : Loops) (head : ℕ) (changes : L
     | inr t ↦ subst (λ (b : Bool). IsBestOrNone edge loops head changes state (cell + 1) (cond b (Some bound) (Some old))) (sym t)
         (old_best cell old bound e is (ltb-false bound.passes old.passes t) so)
   ]
-
-  -- all cells gone through
-  pub best_all : (count : ℕ) (best : Option HeadBound) → ((cell : ℕ) (step : TurnStep) → CellCounts edge loops head changes cell step → cell < count)
-      → IsBestOrNone edge loops head changes state count best → IsBoundOrNone edge loops head changes state best
-  best_all count None all so = λ cell step counts. so cell step (all cell step counts) counts
-  best_all count (Some bound) all so = record { is = so.is; best = λ cell step counts. so.best cell step (all cell step counts) counts }
-
-  pub none_best : IsBestOrNone edge loops head changes state 0 None
-  none_best = λ cell step l counts. omega (arith, l)

@@ -1,5 +1,5 @@
 -- One loop of a nest, its body, and the graph of the body.
-use Rattle.std.proofs.Common.{◌≡◌, ◌≢◌, ◌==◌, ◌&&◌, ◌+◌, ◌^◌, ◌<◌, ◌≤◌, inl, inr, ℕ, zero, suc, Bool, true, false, Option, Some, None, List, [], ◌∷◌, ◌++◌, length, map, get_or, refl, sym, ap, subst, ◌∙◌, arith, cond}
+use Rattle.std.proofs.Common.{◌≡◌, ◌==◌, ◌&&◌, ◌+◌, ◌^◌, ◌<◌, ◌≤◌, inl, inr, ℕ, zero, suc, Bool, true, false, Option, Some, None, List, [], ◌∷◌, ◌++◌, length, map, get_or, refl, sym, ap, subst, ◌∙◌, arith, cond}
 use Rattle.std.specs.List.{slice_get}
 use Rattle.std.specs.List.Sorted.{IsStrictlyIncreasing}
 use Rattle.std.proofs.lemmas.Bool.{cases_lt}
@@ -16,14 +16,14 @@ use Rattle.counter_bound.proofs.Balance.{IsInnerLoop, IsRound, is_round, even_in
 use Rattle.counter_bound.proofs.Moving.{IsMoved, Moves, walk_moves, once_moves, ups_move, downs_move, inside_moves, step_moves, other_node}
 use Rattle.graph_laws.specs.Counter.{Changes}
 use Rattle.graph_laws.specs.Loops.{AreLoops, edges_inside}
-use Rattle.graph_laws.specs.Nest.{Nest, loops_of}
+use Rattle.graph_laws.specs.Nest.{loops_of}
 use Rattle.graph_laws.specs.Forward.{AreEqual}
 use Rattle.graph_laws.specs.Walk.{IsWalk, AreInside, passes, total}
 use Rattle.graph_laws.proofs.Nests.{two_true}
 use Rattle.graph_laws.proofs.Walks.{passes_here, passes_other}
 use Rattle.loop_nest.specs.LoopNest.{IsLoopOf}
 use Rattle.loop_nest.specs.declared.natural_loop.Loop.{Loop}
-use Rattle.path_bound.specs.Places.{place_of, held, loops_in, AreLoopsBelow}
+use Rattle.path_bound.specs.Places.{held, loops_in, AreLoopsBelow}
 use Rattle.path_bound.specs.Ranked.{rank_in}
 use Rattle.path_bound.proofs.Facts.{equal, below, hold, are_loops, edge_from}
 use Rattle.path_bound.proofs.Ordered.{rank_within, rank_at}
@@ -129,9 +129,11 @@ module _ (graph : List (List ℕ)) (loops : List Loop) (nest : HasNest graph loo
       walk_in : (x : ℕ) (rest : List ℕ) → IsWalk (edges_inside (is_edge graph) (has one.body.items)) x rest
           → IsWalk (edges_inside (is_edge graph) (nest.nest.nest.body one.head)) x rest
       walk_in x [] v = tt
-      walk_in x (y ∷ rest) v =
-          (ap (λ (z : Bool). is_edge graph x y && (z && nest.nest.nest.body one.head y)) (nest_body x)
-          ∙ (ap (λ (z : Bool). is_edge graph x y && (has one.body.items x && z)) (nest_body y) ∙ v.0), walk_in y rest v.1)
+      walk_in x (y ∷ rest) v = (
+        ap (λ (z : Bool). is_edge graph x y && (z && nest.nest.nest.body one.head y)) (nest_body x)
+            ∙ (ap (λ (z : Bool). is_edge graph x y && (has one.body.items x && z)) (nest_body y) ∙ v.0),
+        walk_in y rest v.1,
+      )
 
       kept : (k : ℕ) → IsInnerLoop nest.nest.nest one.head k → (y : ℕ) → nest.nest.nest.body k y ≡ true
           → (changes_of changes cell).up y ≡ (changes_of changes cell).down y
@@ -264,10 +266,16 @@ module _ (graph : List (List ℕ)) (loops : List Loop) (nest : HasNest graph loo
 
         within : (x last : ℕ) (rest : List ℕ) → has one.body.items x ≡ true → has one.body.items last ≡ true → AreInside (has one.body.items) rest
             → IsWalk (is_edge graph) x (rest ++ last ∷ []) → IsWalk (edges_inside (is_edge graph) (has one.body.items)) x (rest ++ last ∷ [])
-        within x last [] a b i v = (two_true (is_edge graph x last) (has one.body.items x && has one.body.items last) v.0
-            (two_true (has one.body.items x) (has one.body.items last) a b), tt)
-        within x last (y ∷ rest) a b i v = (two_true (is_edge graph x y) (has one.body.items x && has one.body.items y) v.0
-            (two_true (has one.body.items x) (has one.body.items y) a i.0), within y last rest i.0 b i.1 v.1)
+        within x last [] a b i v = (
+          two_true (is_edge graph x last) (has one.body.items x && has one.body.items last) v.0
+              (two_true (has one.body.items x) (has one.body.items last) a b),
+          tt,
+        )
+        within x last (y ∷ rest) a b i v = (
+          two_true (is_edge graph x y) (has one.body.items x && has one.body.items y) v.0
+              (two_true (has one.body.items x) (has one.body.items y) a i.0),
+          within y last rest i.0 b i.1 v.1,
+        )
 
         apart_of : (x : ℕ) (rest : List ℕ) → passes place (x ∷ rest) ≡ 0 → (x ≡ place → ⊥) × (passes place rest ≡ 0)
         apart_of x rest v = elim (eqb_tells x place) [

@@ -1,22 +1,18 @@
 -- The cells that may count, from what the nodes of a body change.
-use Rattle.std.proofs.Common.{◌≡◌, ◌≢◌, ◌==◌, ◌&&◌, ◌||◌, ◌⊎◌, ◌+◌, ◌<◌, ◌≤◌, inl, inr, ℕ, zero, suc, ℤ, pos, negsuc, Bool, true, false, not, cond, Option, Some, None, List, [], ◌∷◌, length, get_or, refl, sym, ap, subst, ◌∙◌, arith}
+use Rattle.std.proofs.Common.{◌≡◌, ◌≢◌, ◌==◌, ◌&&◌, ◌||◌, ◌⊎◌, ◌+◌, ◌≤◌, inl, inr, ℕ, zero, suc, ℤ, Bool, true, false, not, cond, Option, Some, None, List, [], ◌∷◌, length, get_or, refl, sym, ap, subst, ◌∙◌, arith}
 use Rattle.std.specs.List.{slice_get, list_any}
 use Rattle.std.proofs.lemmas.Bool.{cases_lt, eq-eqb}
 use Rattle.std.proofs.lemmas.Bool.Decides.{eqb_tells}
-use Rattle.std.proofs.lemmas.Option.{slice_get_within, slice_get-get_or}
-use Rattle.std.proofs.lemmas.List.Folds.{list_any_at, Any-from_list_any}
 use Rattle.bt_base.specs.Graph.{has, is_edge}
 use Rattle.call_effects.specs.Mask.{has_cell}
 use Rattle.counter_bound.specs.Best.{AreCandidates}
 use Rattle.counter_bound.specs.Body.{is_inside, is_inner, is_marked, AreInner, adds_outside, spoils, IsSpoilt, AreTouched}
 use Rattle.counter_bound.specs.Change.{touches, adds_to, up_in, down_in, up_of, down_of, changes_of, AreAdded}
-use Rattle.counter_bound.specs.Counts.{HasNest, IsAdded, CellCounts}
+use Rattle.counter_bound.specs.Counts.{HasNest, CellCounts}
 use Rattle.counter_bound.specs.declared.change.Change.{Change}
 use Rattle.counter_bound.specs.declared.change.Change.TheVariants.{Add, Other}
 use Rattle.counter_bound.specs.declared.touching.Touched.{Touched}
 use Rattle.counter_bound.proofs.Bodies.{body_is, head_has, head_in, loops_are, rising}
-use Rattle.graph_laws.specs.Counter.{Changes, IsTurn}
-use Rattle.graph_laws.specs.Loops.{AreLoops}
 use Rattle.graph_laws.specs.Walk.{AreInside, total}
 use Rattle.graph_laws.proofs.Nests.{two_true}
 use Rattle.graph_laws.proofs.Stretches.{tells, both}
@@ -25,7 +21,7 @@ use Rattle.path_bound.specs.Places.{place_of, held, loops_in}
 use Rattle.path_bound.specs.Ranked.{rank_in}
 use Rattle.path_bound.proofs.Facts.{loop_at}
 use Rattle.path_bound.proofs.Ordered.{rank_within, rank_at}
-use Rattle.path_bound.proofs.Placed.{IsLoopAt, place_is, head_place}
+use Rattle.path_bound.proofs.Placed.{IsLoopAt, place_is}
 use Rattle.turn_sums.specs.Step.{IsStep}
 use Rattle.turn_sums.specs.declared.step.TurnStep.{TurnStep}
 use Rattle.turn_sums.specs.declared.step.TurnStep.TheVariants.{Rises, Falls}
@@ -124,11 +120,6 @@ not_same x y t e = let s : (x == y) ≡ true = eq-eqb x y e in let f : not (x ==
 
 not_is : (x y : ℕ) → (x ≡ y → ⊥) → not (x == y) ≡ true
 not_is x y ne = elim (eqb_tells x y) [ inl a ↦ absurd (ne a.1) | inr a ↦ ap not a.0 ]
-
--- a change of a cell outside of loops inside either adds to it or spoils it
-spoils_or_adds : (change : Change) (cell : ℕ) → spoils change false cell ≡ false → touches change cell ≡ true → adds_to change cell ≡ true
-spoils_or_adds (Add to k) cell s t = t
-spoils_or_adds (Other mask) cell s t = absurd (let f : has_cell mask cell ≡ false = s in let g : has_cell mask cell ≡ true = t in cc)
 
 spoils_any : (change : Change) (inner : Bool) (cell : ℕ) → spoils change inner cell ≡ false → touches change cell ≡ true → adds_to change cell ≡ true
 spoils_any (Add to k) inner cell s t = t

@@ -1,9 +1,8 @@
 -- What one more node of a body changes.
-use Rattle.std.proofs.Common.{◌≡◌, ◌||◌, ◌⊎◌, ◌+◌, ◌<◌, ◌≤◌, inl, inr, ℕ, Bool, true, false, Some, List, ◌++◌, ◌∷◌, [], length, get_or, refl, sym, ap, subst, ◌∙◌, arith}
+use Rattle.std.proofs.Common.{◌≡◌, ◌||◌, ◌⊎◌, ◌+◌, ◌<◌, inl, inr, ℕ, Bool, true, false, Some, List, get_or, refl, sym, ap, ◌∙◌, arith}
 use Rattle.std.specs.List.{slice_get}
 use Rattle.std.proofs.lemmas.Bool.{cases_lt}
 use Rattle.call_effects.specs.Mask.{has_cell}
-use Rattle.call_effects.proofs.MaskLemmas.{masks_are_sets}
 use Rattle.counter_bound.specs.Body.{is_marked, adds_outside, spoils, IsSpoilt, AreTouched}
 use Rattle.counter_bound.specs.declared.change.Change.{Change}
 use Rattle.counter_bound.specs.declared.touching.Touched.{Touched}
@@ -56,11 +55,3 @@ module _ (body : List ℕ) (changes : List Change) (marks : List Bool) (place : 
           → spoils change inner c ≡ true
       spoil_here c i other q e t =
           ap (λ (x : Bool). spoils change x c) (sym (ap (is_marked marks) q ∙ mark)) ∙ (ap (λ (x : Change). spoils x (is_marked marks i) c) (sym (same i other q e)) ∙ t)
-
-pub touched_none : (body : List ℕ) (changes : List Change) (marks : List Bool) (touched : Touched) → touched.adds ≡ 0 → touched.spoilt ≡ 0
-    → AreTouched body changes marks 0 touched
-touched_none body changes marks touched a b = record {
-  adds = λ i c change l e t. absurd (omega (arith, l));
-  spoils = λ i c change l e t. absurd (omega (arith, l));
-  spoilt = λ c h. absurd (masks_are_sets.none c (ap (λ (m : ℕ). has_cell m c) (sym b) ∙ h));
-}

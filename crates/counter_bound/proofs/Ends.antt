@@ -1,7 +1,7 @@
 -- The ends of a value are in order.
-use Rattle.std.proofs.Common.{◌≡◌, ◌+◌, ◌≤◌, ℕ, arith}
+use Rattle.std.proofs.Common.{◌≤◌, arith}
 use Rattle.value_lattice.specs.Ends.{AreEndsOf, low_end, high_end, least_place, greatest_place}
-use Rattle.value_lattice.specs.Order.{word_at, rank_of}
+use Rattle.value_lattice.specs.Order.{word_at}
 use Rattle.value_lattice.specs.Value.{IsValue, IsBetween}
 use Rattle.value_lattice.specs.declared.value.Value.{Value}
 use Rattle.value_lattice.specs.declared.value.Value.TheVariants.{Words, Range, Ret}

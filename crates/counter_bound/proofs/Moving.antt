@@ -1,7 +1,7 @@
 -- Turns of one graph that are turns of another, with the same sums.
-use Rattle.std.proofs.Common.{◌≡◌, ◌==◌, ◌+◌, ◌≤◌, inl, inr, ℕ, Bool, true, false, List, [], ◌∷◌, ◌++◌, map, refl, sym, ap, subst, ◌∙◌, arith}
+use Rattle.std.proofs.Common.{◌≡◌, ◌==◌, ◌+◌, ◌≤◌, inl, inr, ℕ, Bool, true, false, List, [], ◌∷◌, ◌++◌, map, refl, sym, subst, ◌∙◌, arith}
 use Rattle.std.proofs.lemmas.Bool.Decides.{eqb_tells}
-use Rattle.graph_laws.specs.Walk.{IsWalk, AreInside, passes, end_of, total}
+use Rattle.graph_laws.specs.Walk.{IsWalk, AreInside, passes, total}
 use Rattle.graph_laws.specs.Counter.{Changes, IsTurn}
 use Rattle.graph_laws.proofs.Walks.{passes_here, passes_other}
 use Rattle.turn_sums.specs.Step.{IsStep, IsLeastRise, IsLeastFall}

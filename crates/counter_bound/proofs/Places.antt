@@ -1,12 +1,12 @@
 -- Places of nodes in a body that rises, its marks, and the edges between them.
-use Rattle.std.proofs.Common.{◌≡◌, ◌==◌, ◌&&◌, ◌||◌, ◌+◌, ◌<◌, ◌≤◌, inl, inr, ℕ, Bool, true, false, List, length, get_or, set, Result, Ok, Err, refl, sym, ap, ◌∙◌, arith}
+use Rattle.std.proofs.Common.{◌≡◌, ◌==◌, ◌&&◌, ◌||◌, ◌<◌, inl, inr, ℕ, Bool, true, false, List, length, get_or, set, Ok, Err, refl, sym, ap, ◌∙◌, arith}
 use Rattle.std.specs.Ordering.{nat_cmp}
 use Rattle.std.specs.List.Sorted.{IsStrictlyIncreasing, IsBinarySearchResult}
 use Rattle.std.proofs.lemmas.Bool.{cases_lt, eq-eqb}
 use Rattle.std.proofs.lemmas.Bool.Decides.{eqb_tells}
 use Rattle.std.proofs.lemmas.List.{get_or-set_same, get_or-set_other}
 use Rattle.std.proofs.lemmas.List.Sorted.{searched}
-use Rattle.bt_base.specs.Graph.{has, is_edge, is_edge_with}
+use Rattle.bt_base.specs.Graph.{is_edge, is_edge_with}
 use Rattle.bt_base.proofs.Rows.{rising_apart}
 use Rattle.counter_bound.specs.Body.{is_marked}
 use Rattle.counter_bound.proofs.Bodies.{rising_one}
@@ -47,21 +47,8 @@ mark_at marks p i same l e = elim (eqb_tells i p) [
   | inr a ↦ get_or-set_other marks p i true false a.1 ∙ or_none (is_marked marks i) same (e ∙ a.0)
 ]
 
--- an edge more leaves the rows of other places
-pub with_kept : (old new : List (List ℕ)) (place to : ℕ) → ((n m : ℕ) → is_edge new n m ≡ is_edge_with old place to n m) → (i j : ℕ) → (i == place) ≡ false
-    → is_edge new i j ≡ is_edge old i j
-with_kept old new place to edges i j e = edges i j ∙ sym (or_none (is_edge old i j) ((i == place) && (j == to)) (ap (λ (b : Bool). b && (j == to)) e))
-
+-- an edge more changes the row of its place
 pub with_row : (old new : List (List ℕ)) (place to : ℕ) → ((n m : ℕ) → is_edge new n m ≡ is_edge_with old place to n m) → (j : ℕ) (same : Bool) → same ≡ (j == to)
     → is_edge new place j ≡ (is_edge old place j || same)
 with_row old new place to edges j same e =
     edges place j ∙ (ap (λ (b : Bool). is_edge old place j || (b && (j == to))) (eq-eqb place place refl) ∙ ap (λ (b : Bool). is_edge old place j || b) (sym e))
-
-or_assoc : (a b c : Bool) → ((a || b) || c) ≡ (a || (b || c))
-or_assoc true b c = refl
-or_assoc false b c = refl
-
--- one more of a list
-pub or_more : (new cur old first one all : Bool) → new ≡ (cur || one) → cur ≡ (old || first) → all ≡ (first || one) → new ≡ (old || all)
-or_more new cur old first one all a b c =
-    a ∙ (ap (λ (x : Bool). x || one) b ∙ (or_assoc old first one ∙ ap (λ (x : Bool). old || x) (sym c)))

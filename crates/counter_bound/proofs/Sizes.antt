@@ -1,8 +1,8 @@
 -- Steps of turns are short: a turn has the sum of one that passes each node once.
-use Rattle.std.proofs.Common.{◌≡◌, ◌+◌, ◌*◌, ◌^◌, ◌<◌, ◌≤◌, ℕ, Bool, true, List, [], ◌∷◌, ◌++◌, length, arith}
+use Rattle.std.proofs.Common.{◌≡◌, ◌+◌, ◌*◌, ◌^◌, ◌<◌, ◌≤◌, ℕ, Bool, true, List, [], ◌∷◌, length, arith}
 use Rattle.counter_bound.specs.Best.{IsShortStep}
 use Rattle.graph_laws.specs.Counter.{Changes}
-use Rattle.graph_laws.specs.Walk.{IsWalk, passes, end_of, total}
+use Rattle.graph_laws.specs.Walk.{end_of, total}
 use Rattle.graph_laws.proofs.Walks.{walk_front}
 use Rattle.turn_sums.specs.Search.{sum_before, AreBalanced, all_nodes}
 use Rattle.turn_sums.specs.Step.{IsStep}
@@ -36,15 +36,19 @@ module _ (edge : ℕ → ℕ → Bool) (head : ℕ) (changes : Changes) (count :
   pub short_step : (step : TurnStep) → IsStep edge all_nodes head changes step → IsShortStep step
   short_step (Rises by) s =
       let p : IsShort edge head changes count s.between =
-      short_path edge head changes count below balanced s.between (walk_front edge head s.between (head ∷ []) s.turn.walk) s.turn.once in
-      (s.one, rise_fits by (sum_before changes.up head s.between) (sum_before changes.down head s.between) (changes.up (end_of head s.between)) (changes.down (end_of head s.between))
-      (sum_before changes.up head p.path) (sum_before changes.down head p.path) (length p.path) count (total changes.up (head ∷ s.between)) (total changes.down (head ∷ s.between))
-      s.is (total_is_before changes.up head s.between) (total_is_before changes.down head s.between) p.same (most_up changes.up ups head p.path)
-      (ups (end_of head s.between)) p.short few)
+      short_path edge head changes count below balanced s.between (walk_front edge head s.between (head ∷ []) s.turn.walk) s.turn.once in (
+        s.one,
+        rise_fits by (sum_before changes.up head s.between) (sum_before changes.down head s.between) (changes.up (end_of head s.between)) (changes.down (end_of head s.between))
+            (sum_before changes.up head p.path) (sum_before changes.down head p.path) (length p.path) count (total changes.up (head ∷ s.between)) (total changes.down (head ∷ s.between))
+            s.is (total_is_before changes.up head s.between) (total_is_before changes.down head s.between) p.same (most_up changes.up ups head p.path)
+            (ups (end_of head s.between)) p.short few,
+      )
   short_step (Falls by) s =
       let p : IsShort edge head changes count s.between =
-      short_path edge head changes count below balanced s.between (walk_front edge head s.between (head ∷ []) s.turn.walk) s.turn.once in
-      (s.one, fall_fits by (sum_before changes.up head s.between) (sum_before changes.down head s.between) (changes.up (end_of head s.between)) (changes.down (end_of head s.between))
-      (sum_before changes.up head p.path) (sum_before changes.down head p.path) (length p.path) count (total changes.up (head ∷ s.between)) (total changes.down (head ∷ s.between))
-      s.is (total_is_before changes.up head s.between) (total_is_before changes.down head s.between) p.same (most_down changes.down downs head p.path)
-      (downs (end_of head s.between)) p.short few)
+      short_path edge head changes count below balanced s.between (walk_front edge head s.between (head ∷ []) s.turn.walk) s.turn.once in (
+        s.one,
+        fall_fits by (sum_before changes.up head s.between) (sum_before changes.down head s.between) (changes.up (end_of head s.between)) (changes.down (end_of head s.between))
+            (sum_before changes.up head p.path) (sum_before changes.down head p.path) (length p.path) count (total changes.up (head ∷ s.between)) (total changes.down (head ∷ s.between))
+            s.is (total_is_before changes.up head s.between) (total_is_before changes.down head s.between) p.same (most_down changes.down downs head p.path)
+            (downs (end_of head s.between)) p.short few,
+      )

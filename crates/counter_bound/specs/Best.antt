@@ -1,6 +1,5 @@
 -- The cells that may count, and the best bound of those gone through.
-use Rattle.std.specs.Prelude.{◌≡◌, ℕ, ◌+◌, ◌^◌, ◌<◌, ◌≤◌, Bool, true, false, List, Option, Some, None, nat_lt, if◌then◌else◌}
-use Rattle.abs_state.specs.State.{State}
+use Rattle.std.specs.Prelude.{◌≡◌, ℕ, ◌^◌, ◌<◌, ◌≤◌, Bool, true, false, List, Option, Some, None, nat_lt, if◌then◌else◌}
 use Rattle.abs_state.specs.declared.head_bound.HeadBound.{HeadBound}
 use Rattle.call_effects.specs.Mask.{has_cell}
 use Rattle.counter_bound.specs.Counts.{CellCounts, IsAdded}

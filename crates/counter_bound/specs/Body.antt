@@ -1,6 +1,6 @@
 -- The nodes of a loop's body by their places in it: the graph of their edges, which are in loops inside, and what they
 -- change.
-use Rattle.std.specs.Prelude.{◌≡◌, ◌==◌, ◌&&◌, ◌||◌, ℕ, ◌<◌, ◌⊎◌, Bool, true, false, not, List, length, take, Option, Some, None, slice_get, slice_index, slice_index_or}
+use Rattle.std.specs.Prelude.{◌≡◌, ◌==◌, ◌&&◌, ◌||◌, ℕ, ◌<◌, Bool, true, false, not, List, length, Some, slice_get, slice_index, slice_index_or}
 use Rattle.std.specs.List.{list_any}
 use Rattle.bt_base.specs.Graph.{has, is_edge}
 use Rattle.call_effects.specs.Mask.{has_cell}

@@ -233,7 +233,5 @@ pub fn head_bound(
     let touched = candidates(alloc, graph, nest, one, changes)?;
     let small = body_graph(alloc, graph, &one.body)?;
     let at = place_in(&one.body, one.head);
-    best_of(
-        alloc, graph, nest, one, &small, at, changes, head, &touched,
-    )
+    best_of(alloc, graph, nest, one, &small, at, changes, head, &touched)
 }

@@ -13,13 +13,7 @@ fn up_in(change: Change, c: u8) -> u32
     ensures most { result ≤ 2147483647 }
 {
     match change {
-        Change::Add { cell, k } => {
-            if c == cell && 0 < k {
-                k as u32
-            } else {
-                0
-            }
-        }
+        Change::Add { cell, k } => { if c == cell && 0 < k { k as u32 } else { 0 } }
         Change::Other(_) => 0,
     }
 }

@@ -1,4 +1,4 @@
-use Rattle.std.proofs.Common.{◌≡◌, ◌≤◌, ℕ, arith}
+use Rattle.std.proofs.Common.{◌≤◌, arith}
 use Rattle.value_lattice.specs.Ends.{low_end, high_end}
 use Rattle.counter_bound.proofs.Ends.{ends_rise}
 use Rattle.counter_bound.proofs.bounding.cell_bound.Goals as goal

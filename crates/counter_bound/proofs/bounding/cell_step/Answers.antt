@@ -1,4 +1,4 @@
-use Rattle.std.proofs.Common.{◌≡◌, ◌<◌, ℕ, true, Option, IfSome, List, length, sym, ap, ◌∙◌, arith}
+use Rattle.std.proofs.Common.{◌<◌, ℕ, Option, IfSome, List, length, sym, ap, ◌∙◌, arith}
 use Rattle.bt_base.specs.Graph.{has, is_edge}
 use Rattle.counter_bound.specs.Best.{IsShortStep}
 use Rattle.counter_bound.specs.Change.{changes_of}
@@ -13,17 +13,17 @@ use Rattle.counter_bound.proofs.bounding.cell_step.Goals as goal
 pub ups_of-requires : goal.ups_of-requires
 ups_of-requires c = record {
   nodes = λ n h.
-    let l : n < length c.args.graph.now = nodes_below c.args.graph.now c.args.nest.now c.requires.nest c.requires.number.0 c.args.one.now c.requires.number.1 n
-    (ap (λ (l : List ℕ). has l n) (sym c.deref.ensures.value) ∙ h) in
-    omega (arith, l, c.requires.changes);
+      let l : n < length c.args.graph.now = nodes_below c.args.graph.now c.args.nest.now c.requires.nest c.requires.number.0 c.args.one.now c.requires.number.1 n
+      (ap (λ (l : List ℕ). has l n) (sym c.deref.ensures.value) ∙ h) in
+      omega (arith, l, c.requires.changes);
 }
 
 pub downs_of-requires : goal.downs_of-requires
 downs_of-requires c = record {
   nodes = λ n h.
-    let l : n < length c.args.graph.now = nodes_below c.args.graph.now c.args.nest.now c.requires.nest c.requires.number.0 c.args.one.now c.requires.number.1 n
-    (ap (λ (l : List ℕ). has l n) (sym c.deref-2.ensures.value) ∙ h) in
-    omega (arith, l, c.requires.changes);
+      let l : n < length c.args.graph.now = nodes_below c.args.graph.now c.args.nest.now c.requires.nest c.requires.number.0 c.args.one.now c.requires.number.1 n
+      (ap (λ (l : List ℕ). has l n) (sym c.deref-2.ensures.value) ∙ h) in
+      omega (arith, l, c.requires.changes);
 }
 
 pub turn_step-requires-clause-balanced : goal.turn_step-requires-clause-balanced

@@ -1,4 +1,4 @@
-use Rattle.std.proofs.Common.{◌≡◌, ◌+◌, ℕ, false, Option, Some, subst, sym, ◌∙◌}
+use Rattle.std.proofs.Common.{◌≡◌, ◌+◌, false, Option, subst, sym, ◌∙◌}
 use Rattle.abs_state.specs.declared.head_bound.HeadBound.{HeadBound}
 use Rattle.bt_base.specs.Graph.{is_edge}
 use Rattle.call_effects.specs.Mask.{has_cell}

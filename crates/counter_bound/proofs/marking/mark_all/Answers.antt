@@ -1,8 +1,6 @@
-use Rattle.std.proofs.Common.{◌≡◌, ◌||◌, Bool, get_or, sym, ap, ◌∙◌}
-use Rattle.bt_base.specs.Graph.{has}
+use Rattle.std.proofs.Common.{◌||◌, Bool, get_or, sym, ap, ◌∙◌}
 use Rattle.counter_bound.specs.Body.{is_marked}
-use Rattle.counter_bound.proofs.Places.{or_more}
-use Rattle.turn_sums.proofs.Lists.{has_take_more, has_take_all, or_none}
+use Rattle.turn_sums.proofs.Lists.{has_take_all, or_none}
 use Rattle.counter_bound.proofs.marking.mark_all.Goals as goal
 
 pub loop-node-init : goal.loop-node-init

@@ -1,4 +1,4 @@
-use Rattle.std.proofs.Common.{◌≡◌, ◌==◌, ◌<◌, ℕ, length, get_or, Result, Ok, Err, sym, subst, arith}
+use Rattle.std.proofs.Common.{◌==◌, ◌<◌, ℕ, length, get_or, Result, Ok, Err, subst, arith}
 use Rattle.std.specs.Ordering.{nat_cmp}
 use Rattle.std.specs.List.Sorted.{IsBinarySearchResult}
 use Rattle.counter_bound.specs.Body.{is_marked}

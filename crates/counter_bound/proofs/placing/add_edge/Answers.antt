@@ -1,7 +1,7 @@
-use Rattle.std.proofs.Common.{◌≡◌, ◌==◌, ◌||◌, ◌<◌, ℕ, length, get_or, Result, Ok, Err, OnOk, subst}
+use Rattle.std.proofs.Common.{◌==◌, ℕ, get_or, Result, Ok, Err, subst}
 use Rattle.std.specs.Ordering.{nat_cmp}
 use Rattle.std.specs.List.Sorted.{IsBinarySearchResult}
-use Rattle.bt_base.specs.Graph.{is_edge, is_edge_with}
+use Rattle.bt_base.specs.Graph.{is_edge}
 use Rattle.counter_bound.proofs.Places.{found_tells, none_tells, or_none, with_row}
 use Rattle.loop_nest.proofs.Places.{on_ok}
 use Rattle.counter_bound.proofs.placing.add_edge.Goals as goal

@@ -1,4 +1,4 @@
-use Rattle.std.proofs.Common.{◌≡◌, ◌==◌, ◌&&◌, ◌||◌, ℕ, Bool, not, sym, ap, ◌∙◌}
+use Rattle.std.proofs.Common.{◌==◌, ◌&&◌, ◌||◌, ℕ, Bool, not, sym, ap, ◌∙◌}
 use Rattle.call_effects.specs.Mask.{has_cell}
 use Rattle.call_effects.proofs.MaskLemmas.{has-with, has-union}
 use Rattle.counter_bound.specs.Body.{adds_outside, spoils}
