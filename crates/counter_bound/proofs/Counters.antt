@@ -1,16 +1,16 @@
 -- Bounds of heads by cells that count.
-use Rattle.std.proofs.Common.{◌≡◌, ◌+◌, ◌-◌, ◌/◌, ◌≤◌, inl, inr, ℕ, ℤ, Bool, List, Option, refl, sym, ap, subst, ◌∙◌, arith}
+use Rattle.std.proofs.Common.{◌≡◌, ◌≤◌, inl, inr, ℕ, ℤ, Bool, List, sym, ap, subst, ◌∙◌, arith}
 use Rattle.abs_state.specs.State.{State, cell_at}
 use Rattle.abs_state.specs.declared.head_bound.HeadBound.{HeadBound}
 use Rattle.counter_bound.specs.Change.{changes_of}
-use Rattle.counter_bound.specs.Counts.{CellCounts, IsCellBound, IsHeadBound, IsNoMore, counter_of, passes_by, signed}
+use Rattle.counter_bound.specs.Counts.{CellCounts, IsHeadBound, IsNoMore, counter_of, passes_by, signed}
 use Rattle.counter_bound.specs.Laws.{CellsCountByOneStep, HeadBoundIsOne, BoundsAreCounters}
 use Rattle.counter_bound.specs.declared.change.Change.{Change}
 use Rattle.frame_laws.specs.Context.{IsCounter}
 use Rattle.graph_laws.specs.Loops.{Loops}
 use Rattle.turn_sums.specs.declared.step.TurnStep.{TurnStep}
 use Rattle.turn_sums.specs.declared.step.TurnStep.TheVariants.{Rises, Falls}
-use Rattle.turn_sums.specs.Step.{IsStep, size_of}
+use Rattle.turn_sums.specs.Step.{IsStep}
 use Rattle.turn_sums.proofs.Steps.{one_step}
 use Rattle.value_lattice.specs.Ends.{low_end, high_end}
 use Rattle.value_lattice.specs.Order.{number_at}

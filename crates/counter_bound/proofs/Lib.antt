@@ -1,1 +1,12 @@
+pub mod Balance
+pub mod Bests
+pub mod Bodies
+pub mod Candidates
+pub mod Changed
 pub mod Counters
+pub mod Ends
+pub mod Moving
+pub mod Places
+pub mod Pushing
+pub mod Sizes
+pub mod Stepping

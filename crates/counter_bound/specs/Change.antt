@@ -1,5 +1,5 @@
 -- What nodes change in cells.
-use Rattle.std.specs.Prelude.{◌≡◌, ◌==◌, ◌&&◌, ℕ, suc, ◌<◌, ◌≤◌, Bool, false, ℤ, pos, negsuc, List, Option, Some, None, slice_get, if◌then◌else◌}
+use Rattle.std.specs.Prelude.{◌≡◌, ◌==◌, ℕ, suc, ◌<◌, ◌≤◌, Bool, false, ℤ, pos, negsuc, List, Option, Some, None, slice_get, if◌then◌else◌}
 use Rattle.call_effects.specs.Mask.{has_cell}
 use Rattle.counter_bound.specs.declared.change.Change.{Change}
 use Rattle.counter_bound.specs.declared.change.Change.TheVariants.{Add, Other}

@@ -58,6 +58,17 @@ pub record IsCellBound (edge : ℕ → ℕ → Bool) (loops : Loops) (head : ℕ
 abbrev pub IsNoMore : HeadBound → ℕ → ℕ → Type 0
 IsNoMore bound passes cell = (bound.passes < passes) ⊎ ((bound.passes ≡ passes) × (bound.cell ≤ cell))
 
+-- the best bound of the cells below a number: the fewest passes, then the least cell
+pub record IsBest (edge : ℕ → ℕ → Bool) (loops : Loops) (head : ℕ) (changes : List Change) (state : State) (below : ℕ) (bound : HeadBound) : Type 0 where
+  pub low : bound.cell < below
+  pub is : IsCellBound edge loops head changes state bound
+  pub best : (cell : ℕ) (step : TurnStep) → cell < below → CellCounts edge loops head changes cell step
+      → IsNoMore bound (passes_by state cell step) cell
+
+abbrev pub IsBestOrNone : (ℕ → ℕ → Bool) → Loops → ℕ → List Change → State → ℕ → Option HeadBound → Type 0
+IsBestOrNone edge loops head changes state below None = (cell : ℕ) (step : TurnStep) → cell < below → CellCounts edge loops head changes cell step → ⊥
+IsBestOrNone edge loops head changes state below (Some bound) = IsBest edge loops head changes state below bound
+
 -- the bound of a head: that of the cells that count, with the fewest passes, then the least cell
 pub record IsHeadBound (edge : ℕ → ℕ → Bool) (loops : Loops) (head : ℕ) (changes : List Change) (state : State) (bound : HeadBound) : Type 0 where
   pub is : IsCellBound edge loops head changes state bound

@@ -1,5 +1,5 @@
 -- Laws of cells that count.
-use Rattle.std.specs.Prelude.{◌≡◌, ℕ, Bool, List, Option, Some}
+use Rattle.std.specs.Prelude.{◌≡◌, ℕ, Bool, List}
 use Rattle.abs_state.specs.State.{State}
 use Rattle.abs_state.specs.declared.head_bound.HeadBound.{HeadBound}
 use Rattle.counter_bound.specs.Counts.{CellCounts, IsCellBound, IsHeadBound, counter_of}

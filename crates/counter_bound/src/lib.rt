@@ -1,8 +1,14 @@
 //! Counters: cells that each turn of a loop changes one way, and so bound how often its head is passed.
 #![tactic(auto)]
 
+mod bounding;
 mod change;
 mod laws;
+mod marking;
+mod placing;
+mod summing;
+mod touching;
 
+pub use bounding::head_bound;
 pub use change::Change;
 pub use laws::{bounds_are_counters, cells_count_by_one_step, head_bound_is_one};
