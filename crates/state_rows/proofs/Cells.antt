@@ -14,6 +14,7 @@ both false b h = cc
 -- the cells of a state over thresholds are over them
 pub cells_over : (t : List ℕ) (s : State) → is_state_over t s ≡ true → All (IsOver t) s.cells
 cells_over t s over =
-    let rest = both (eqb (length s.cells) 48) (list_all (is_over t) s.cells && (is_zero (cell_at s 0) && may_speak s.cells s.flags)) over in
-    let first = both (list_all (is_over t) s.cells) (is_zero (cell_at s 0) && may_speak s.cells s.flags) rest.1 in
+    let others = is_zero (cell_at s 0) && may_speak s.cells s.flags in
+    let rest = both (eqb (length s.cells) 48) (list_all (is_over t) s.cells && others) over in
+    let first = both (list_all (is_over t) s.cells) others rest.1 in
     (over_all t s.cells).0 first.0

@@ -1,4 +1,4 @@
-//! States joined and compared: a table of pairs of steps behind an entry, what the join of the two states has in a cell and
+//! States joined and compared: of pairs of steps behind an entry, what their join has and knows, and the order of both.
 //! knows of the condition codes, and which of the two is at most the other.
 ghost use Rattle.std.specs.Prelude.{◌≡◌, true, IfOk};
 ghost use Rattle.abs_state.specs.State.{is_state_over, joined};
