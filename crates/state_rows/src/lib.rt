@@ -7,6 +7,8 @@ mod branches;
 #[cfg(test)]
 mod building;
 #[cfg(test)]
+mod joins;
+#[cfg(test)]
 mod jumps;
 #[cfg(test)]
 mod masks;
