@@ -1,4 +1,6 @@
 pub mod Ascii
 pub mod Asks
 pub mod Exact
+pub mod GraphExact
+pub mod Loops
 pub mod Wholes
