@@ -50,7 +50,7 @@ pub if_ok : {X E : Type 0} (r : Result X E) (P Q : X → Type 0) → ((x : X) �
 if_ok (Ok x) P Q then p = then x p
 if_ok (Err e) P Q then p = p
 
-error_or : {X E : Type 0} → E → Result X E → E
+abbrev error_or : {X E : Type 0} → E → Result X E → E
 error_or other (Ok x) = other
 error_or other (Err e) = e
 
