@@ -200,8 +200,8 @@ fn decode<F: Shelf, K: Sink>(alloc: Global, image: &str, shelf: &mut F, out: &mu
 /// `decode IMAGE`. The assertions of `bound` state one root, whose code is straight, and those of `graph` bound no loop;
 /// other assertions and other code are answered with NotYet. One worker works whatever N is. What is refused is refused
 /// in this order: the words, the image, the table of cycles, the assertions as a text and then as bound to the image,
-/// what they state (NotYet of file 3), the root's code (NotYet of file 1), the size of the due graph. Of a file a failed read comes first, then its length, then its bytes. Nothing is written
-/// before the whole text stands.
+/// what they state (NotYet of file 3), the root's code (NotYet of file 1), the size of the due graph. Of a file a failed
+/// read comes first, then its length, then its bytes. Nothing is written before the whole text stands.
 pub fn run_alone<F: Shelf, K: Sink>(
     alloc: Global,
     words: &[String],
