@@ -1,7 +1,7 @@
 #!/bin/sh
-# Compares what the program says of each executable in examples/ with what stands beside it: its listing, and the
-# report or the refusal of its bound, by one table of cycles or by two. It prints what differs, and ends with status 1 where something does. Where there
-# is no program it says so and ends with status 0.
+# Compares what the program says of each executable in examples/ with what stands beside it: its listing, the report or
+# the refusal of its bound, by one table of cycles or by two, and its graph. It prints what differs, and ends with
+# status 1 where something does. Where there is no program it says so and ends with status 0.
 #
 # BOUNDT: the program; else crates/boundt/out/boundt, which `rt run` in crates/boundt proves, builds and leaves there.
 set -u
@@ -26,6 +26,10 @@ for image in *.elf; do
     if [ -f "$name.leon2.report" ]; then
         "$boundt" bound "$image" leon2.cycles "$name.assert" > "$said" 2>&1
         diff -u "$name.leon2.report" "$said" || status=1
+    fi
+    if [ -f "$name.graph" ]; then
+        "$boundt" graph "$image" erc32.cycles "$name.assert" > "$said" 2>&1
+        diff -u "$name.graph" "$said" || status=1
     fi
     count=$((count + 1))
 done

@@ -8,4 +8,6 @@ mod calls;
 #[cfg(test)]
 mod decode;
 #[cfg(test)]
+mod graph;
+#[cfg(test)]
 mod versions;

@@ -14,7 +14,7 @@ use Rattle.bt_command.specs.Order.{root_of_files, ComesTo, AreTold, BoundIsExact
 use Rattle.bt_command.specs.Report.{one_root}
 use Rattle.bt_command.specs.declared.status.AssertFault.TheVariants.{Parse, Bind}
 use Rattle.bt_command.specs.declared.status.AssertFault.{AssertFault}
-use Rattle.bt_command.specs.declared.status.LimitFault.TheVariants.{TooLong}
+use Rattle.bt_command.specs.declared.status.LimitFault.TheVariants.{TooLong, Nodes}
 use Rattle.bt_command.specs.declared.status.Status.{Status}
 use Rattle.bt_command.specs.declared.status.Status.TheVariants.{Bounded, Usage, Image, Cycles, Assertions, ReadFault, WriteFault, Want, Limit, NotYet}
 use Rattle.bt_image.specs.Refusal.{first_refusal}
@@ -22,25 +22,25 @@ use Rattle.cycle_table.specs.Table.{table_of}
 use Rattle.sparc_machine.specs.Straight.{IsStraight}
 
 -- within a limit
-not_over : (limit : ℕ) (bytes : List ℕ) → length bytes ≤ limit → nat_lt limit (length bytes) ≡ false
+pub not_over : (limit : ℕ) (bytes : List ℕ) → length bytes ≤ limit → nat_lt limit (length bytes) ≡ false
 not_over limit bytes h = grind (arith, nat_tests)
 
-over : (limit : ℕ) (bytes : List ℕ) → limit < length bytes → nat_lt limit (length bytes) ≡ true
+pub over : (limit : ℕ) (bytes : List ℕ) → limit < length bytes → nat_lt limit (length bytes) ≡ true
 over limit bytes h = grind (arith, nat_tests)
 
 -- a told file that is too long
-told_over : (told : Option (List ℕ)) (limit : ℕ) (bytes : List ℕ) → told ≡ Some bytes → IsTooLong told limit → limit < length bytes
+pub told_over : (told : Option (List ℕ)) (limit : ℕ) (bytes : List ℕ) → told ≡ Some bytes → IsTooLong told limit → limit < length bytes
 told_over None limit bytes e h = cc
 told_over (Some x) limit bytes e h =
     let same : x ≡ bytes = cc in
     subst (λ (b : List ℕ). limit < length b) same h
 
 -- an image within its limit and a check of it
-past_image : (image : List ℕ) (rest : Result ℕ Status) → length image ≤ longest_image → behind_image image rest ≡ behind_check (first_refusal image) rest
+pub past_image : {X : Type 0} (image : List ℕ) (rest : Result X Status) → length image ≤ longest_image → behind_image image rest ≡ behind_check (first_refusal image) rest
 past_image image rest h =
     ap (λ (b : Bool). cond b (Err (Limit (TooLong 1 longest_image))) (behind_check (first_refusal image) rest)) (not_over longest_image image h)
 
-past_table : (table : List ℕ) (rest : Result ℕ Status) → length table ≤ longest_table → behind_table table rest ≡ behind_costs (table_of table) rest
+pub past_table : {X : Type 0} (table : List ℕ) (rest : Result X Status) → length table ≤ longest_table → behind_table table rest ≡ behind_costs (table_of table) rest
 past_table table rest h =
     ap (λ (b : Bool). cond b (Err (Limit (TooLong 2 longest_table))) (behind_costs (table_of table) rest)) (not_over longest_table table h)
 
@@ -49,7 +49,7 @@ past_text image text h =
     ap (λ (b : Bool). cond b (Err (Limit (TooLong 3 longest_assertions))) (root_parsed image (assertions_of text))) (not_over longest_assertions text h)
 
 -- a told file that is an image
-past_told_image : (told : Option (List ℕ)) (image' image : List ℕ) (rest : Result ℕ Status) → HasImage told image' → told ≡ Some image
+pub past_told_image : {X : Type 0} (told : Option (List ℕ)) (image' image : List ℕ) (rest : Result X Status) → HasImage told image' → told ≡ Some image
     → behind_image image rest ≡ rest
 past_told_image told image' image rest h e =
     let same : image' ≡ image = agrees told image' image h.file.same e in
@@ -57,7 +57,7 @@ past_told_image told image' image rest h e =
     let fine : first_refusal image ≡ None = subst (λ (i : List ℕ). first_refusal i ≡ None) same h.accepted in
     past_image image rest fits ∙ ap (λ (r : Option _). behind_check r rest) fine
 
-past_told_table : (told : Option (List ℕ)) (costs table : List ℕ) (rest : Result ℕ Status) → HasCosts told costs → told ≡ Some table
+pub past_told_table : {X : Type 0} (told : Option (List ℕ)) (costs table : List ℕ) (rest : Result X Status) → HasCosts told costs → told ≡ Some table
     → behind_table table rest ≡ rest
 past_told_table told costs table rest h e =
     let same : h.table ≡ table = agrees told h.table table h.file.same e in
@@ -173,6 +173,7 @@ bound_exact names call (Limit (TooLong (suc (suc (suc zero))) limit)) says image
     ∙ ap (λ (b : Bool). cond b (Err (Limit (TooLong 3 longest_assertions))) (root_parsed image (assertions_of text))) (over longest_assertions text long)
     ∙ ap (λ (l : ℕ). Err (Limit (TooLong 3 l))) (sym says.limit_is))
 bound_exact names call (Limit (TooLong (suc (suc (suc (suc f)))) limit)) says image table text t n = absurd says.before
+bound_exact names call (Limit (Nodes count)) says image table text t n = absurd says
 bound_exact names call (NotYet zero) says image table text t n = absurd says
 bound_exact names call (NotYet (suc zero)) says image table text t n =
     let same : says.image ≡ image = agrees (call.told names.image) says.image image says.files.has_image.file.same t.image_is in
@@ -218,4 +219,5 @@ decode_exact image call (Limit (TooLong file limit)) says bytes e f s =
     let file_is : file ≡ 1 = says.0 in
     let limit_is : limit ≡ longest_image = says.1.0 in
     inr (ap (λ (n : ℕ). Limit (TooLong n limit)) file_is ∙ ap (λ (l : ℕ). Limit (TooLong 1 l)) limit_is ∙ sym here)
+decode_exact image call (Limit (Nodes count)) says bytes e f s = absurd says
 decode_exact image call (NotYet file) says bytes e f s = absurd says

@@ -11,7 +11,7 @@ use Rattle.bt_command.specs.Decode.{DecodeSays, DecodeIsWhole}
 use Rattle.bt_command.specs.Report.{one_root}
 use Rattle.bt_command.specs.declared.status.AssertFault.TheVariants.{Parse, Bind}
 use Rattle.bt_command.specs.declared.status.AssertFault.{AssertFault}
-use Rattle.bt_command.specs.declared.status.LimitFault.TheVariants.{TooLong}
+use Rattle.bt_command.specs.declared.status.LimitFault.TheVariants.{TooLong, Nodes}
 use Rattle.bt_command.specs.declared.status.Status.{Status}
 use Rattle.bt_command.specs.declared.status.Status.TheVariants.{Bounded, Usage, Image, Cycles, Assertions, ReadFault, WriteFault, Want, Limit, NotYet}
 use Rattle.cycle_table.specs.Table.{table_of}
@@ -110,6 +110,7 @@ bound_whole names call (Limit (TooLong (suc (suc zero)) limit)) says entry count
 bound_whole names call (Limit (TooLong (suc (suc (suc zero))) limit)) says entry count a n =
     absurd (within (call.told names.assertions) limit a.text a.text_is (subst (λ (l : ℕ). length a.text ≤ l) (sym says.limit_is) a.text_within) says.longer)
 bound_whole names call (Limit (TooLong (suc (suc (suc (suc f)))) limit)) says entry count a n = absurd says.before
+bound_whole names call (Limit (Nodes count)) says entry count' a n = absurd says
 bound_whole names call (NotYet zero) says entry count a n = absurd says
 bound_whole names call (NotYet (suc zero)) says entry count a n =
     let images : says.image ≡ a.image = one_image call names entry count a says.image says.costs says.those says.files in
@@ -139,4 +140,5 @@ decode_whole image call (WriteFault written) says bytes e w ok f s = absurd (s s
 decode_whole image call Want says bytes e w ok f s = inr refl
 decode_whole image call (Limit (TooLong file limit)) says bytes e w ok f s =
     absurd (within (call.told image) limit bytes e (subst (λ (l : ℕ). length bytes ≤ l) (sym says.1.0) w) says.1.1)
+decode_whole image call (Limit (Nodes count)) says bytes e w ok f s = absurd says
 decode_whole image call (NotYet file) says bytes e w ok f s = absurd says

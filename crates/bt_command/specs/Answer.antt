@@ -1,9 +1,10 @@
 -- What a call of the program answers to its words.
 use Rattle.std.specs.Prelude.{◌≡◌, ℕ, List}
-use Rattle.bt_words.specs.Request.{Asked, bounds, lists, IsRequest, IsRefused}
+use Rattle.bt_words.specs.Request.{Asked, bounds, graphs, lists, IsRequest, IsRefused}
 use Rattle.bt_command.specs.Bound.{BoundSays, BoundIsWhole}
 use Rattle.bt_command.specs.Call.{Call}
 use Rattle.bt_command.specs.Decode.{DecodeSays, DecodeIsWhole}
+use Rattle.bt_command.specs.Graph.{GraphSays, GraphIsWhole, GraphIsExact}
 use Rattle.bt_command.specs.Order.{BoundIsExact, DecodeIsExact}
 use Rattle.bt_command.specs.declared.status.Status.{Status}
 use Rattle.bt_command.specs.declared.status.Status.TheVariants.{Bounded, Usage, WriteFault, Want}
@@ -12,12 +13,16 @@ use Rattle.bt_command.specs.declared.status.Status.TheVariants.{Bounded, Usage, 
 abbrev pub Says : Asked → Call → Status → Type 0
 Says (bounds image cycles assertions workers) call status =
     BoundSays (record { image = image; cycles = cycles; assertions = assertions }) call status
+Says (graphs image cycles assertions workers) call status =
+    GraphSays (record { image = image; cycles = cycles; assertions = assertions }) call status
 Says (lists image) call status = DecodeSays image call status
 
 -- where the files are accepted and no fault rises, the whole text is written, but for want of memory
 abbrev pub IsWhole : Asked → Call → Status → Type 0
 IsWhole (bounds image cycles assertions workers) call status =
     BoundIsWhole (record { image = image; cycles = cycles; assertions = assertions }) call status
+IsWhole (graphs image cycles assertions workers) call status =
+    GraphIsWhole (record { image = image; cycles = cycles; assertions = assertions }) call status
 IsWhole (lists image) call status = DecodeIsWhole image call status
 
 -- where the files are told and no fault rises, the status is what their bytes come to in the order of refusals, but for
@@ -25,6 +30,8 @@ IsWhole (lists image) call status = DecodeIsWhole image call status
 abbrev pub IsExact : Asked → Call → Status → Type 0
 IsExact (bounds image cycles assertions workers) call status =
     BoundIsExact (record { image = image; cycles = cycles; assertions = assertions }) call status
+IsExact (graphs image cycles assertions workers) call status =
+    GraphIsExact (record { image = image; cycles = cycles; assertions = assertions }) call status
 IsExact (lists image) call status = DecodeIsExact image call status
 
 -- nothing was put into the sink: it tells what it told, and its count of faults stands

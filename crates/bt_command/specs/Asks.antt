@@ -2,11 +2,11 @@
 -- once the one before is accepted, and no other.
 use Rattle.std.specs.Prelude.{◌≡◌, ◌⊎◌, List, ℕ}
 use Rattle.bt_base.specs.Ask.{Ask, IsReading}
-use Rattle.bt_words.specs.Request.{Asked, bounds, lists, IsRequest}
+use Rattle.bt_words.specs.Request.{Asked, bounds, graphs, lists, IsRequest}
 use Rattle.bt_command.specs.Bound.{Names}
 use Rattle.bt_command.specs.Call.{Call, longest_image, longest_table, longest_assertions, AcceptsImage, AcceptsCosts}
 
--- the files of the command `bound` are read one after the other, up to some file, each only once the one before it is
+-- the files of the commands `bound` and `graph` are read one after the other, up to some file, each only once the one before it is
 -- accepted
 pub data ReadsInOrder (names : Names) (call : Call) : Type 0 where
   up_to_image : IsReading names.image longest_image call.asked call.asked_after → ReadsInOrder names call
@@ -19,6 +19,7 @@ pub data ReadsInOrder (names : Names) (call : Call) : Type 0 where
 -- what a command asks of the shelf
 abbrev pub AsksFor : Asked → Call → Type 0
 AsksFor (bounds image cycles assertions workers) call = ReadsInOrder (record { image = image; cycles = cycles; assertions = assertions }) call
+AsksFor (graphs image cycles assertions workers) call = ReadsInOrder (record { image = image; cycles = cycles; assertions = assertions }) call
 AsksFor (lists image) call = IsReading image longest_image call.asked call.asked_after
 
 -- nothing is asked of the shelf

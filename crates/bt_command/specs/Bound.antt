@@ -11,7 +11,7 @@ use Rattle.bt_command.specs.Call.{Call, longest_image, longest_table, longest_as
 use Rattle.bt_command.specs.Call.{HasAssertions, IsNoImage, IsNoTable, StatesNothing, AcceptsImage, AcceptsCosts, IsWritten, IsCutShort}
 use Rattle.bt_command.specs.Report.{one_root, IsReportOf}
 use Rattle.bt_command.specs.declared.status.AssertFault.{AssertFault}
-use Rattle.bt_command.specs.declared.status.LimitFault.TheVariants.{TooLong}
+use Rattle.bt_command.specs.declared.status.LimitFault.TheVariants.{TooLong, Nodes}
 use Rattle.bt_command.specs.declared.status.Status.{Status}
 use Rattle.bt_command.specs.declared.status.Status.TheVariants.{Bounded, Usage, Image, Cycles, Assertions, ReadFault, WriteFault, Want, Limit, NotYet}
 use Rattle.sparc_machine.specs.Straight.{IsStraight}
@@ -107,6 +107,7 @@ BoundSays names call (ReadFault file) = CantBeRead call names file
 BoundSays names call (WriteFault written) = IsCutShort call (IsReport call names) written
 BoundSays names call Want = Unit {0}
 BoundSays names call (Limit (TooLong file limit)) = PassesLimit call names file limit
+BoundSays names call (Limit (Nodes count)) = ⊥
 BoundSays names call (NotYet file) = IsNotBuiltYet call names file
 
 -- each file is told and accepted, the assertions state one root, and its code is straight

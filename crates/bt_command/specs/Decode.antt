@@ -3,7 +3,7 @@ use Rattle.std.specs.Prelude.{◌≡◌, ℕ, ◌≤◌, ◌⊎◌, List, length
 use Rattle.bt_image.specs.Refusal.{first_refusal}
 use Rattle.sparc_text.specs.Listing.{IsListing}
 use Rattle.bt_command.specs.Call.{Call, longest_image, RoseFor, RoseForSink, IsTooLong, HasImage, IsNoImage, IsWritten, IsCutShort}
-use Rattle.bt_command.specs.declared.status.LimitFault.TheVariants.{TooLong}
+use Rattle.bt_command.specs.declared.status.LimitFault.TheVariants.{TooLong, Nodes}
 use Rattle.bt_command.specs.declared.status.Status.{Status}
 use Rattle.bt_command.specs.declared.status.Status.TheVariants.{Bounded, Usage, Image, Cycles, Assertions, ReadFault, WriteFault, Want, Limit, NotYet}
 
@@ -24,6 +24,7 @@ DecodeSays image call (ReadFault file) = (file ≡ 1) × RoseFor call image
 DecodeSays image call (WriteFault written) = IsCutShort call (IsListingOf (call.told image)) written
 DecodeSays image call Want = Unit {0}
 DecodeSays image call (Limit (TooLong file limit)) = (file ≡ 1) × ((limit ≡ longest_image) × IsTooLong (call.told image) limit)
+DecodeSays image call (Limit (Nodes count)) = ⊥
 DecodeSays image call (NotYet file) = ⊥
 
 -- where the file is accepted and no fault rises, the whole listing is written, but for want of memory

@@ -3,6 +3,7 @@ pub mod Asks
 pub mod Bound
 pub mod Call
 pub mod Decode
+pub mod Graph
 pub mod Order
 pub mod Report
 pub mod Status

@@ -41,20 +41,20 @@ root_of_text image text =
     else root_parsed image (assertions_of text)
 
 -- what is behind a table of cycles, or its refusal
-abbrev pub behind_costs : Result (List ℕ) CycleRefusal → Result ℕ Status → Result ℕ Status
+abbrev pub behind_costs : {X : Type 0} → Result (List ℕ) CycleRefusal → Result X Status → Result X Status
 behind_costs (Err refusal) rest = Err (Cycles refusal)
 behind_costs (Ok costs) rest = rest
 
-abbrev pub behind_table : List ℕ → Result ℕ Status → Result ℕ Status
+abbrev pub behind_table : {X : Type 0} → List ℕ → Result X Status → Result X Status
 behind_table table rest =
     if nat_lt longest_table (length table) then Err (Limit (TooLong 2 longest_table)) else behind_costs (table_of table) rest
 
 -- what is behind an image, or its refusal
-abbrev pub behind_check : Option ImageRefusal → Result ℕ Status → Result ℕ Status
+abbrev pub behind_check : {X : Type 0} → Option ImageRefusal → Result X Status → Result X Status
 behind_check (Some refusal) rest = Err (Image refusal)
 behind_check None rest = rest
 
-abbrev pub behind_image : List ℕ → Result ℕ Status → Result ℕ Status
+abbrev pub behind_image : {X : Type 0} → List ℕ → Result X Status → Result X Status
 behind_image image rest =
     if nat_lt longest_image (length image) then Err (Limit (TooLong 1 longest_image)) else behind_check (first_refusal image) rest
 

@@ -18,7 +18,7 @@ use Rattle.cycle_table.specs.declared.refusal.Why.{Why}
 use Rattle.cycle_table.specs.declared.refusal.Why.TheVariants as why
 use Rattle.bt_command.specs.declared.status.AssertFault.{AssertFault}
 use Rattle.bt_command.specs.declared.status.AssertFault.TheVariants.{Parse, Bind}
-use Rattle.bt_command.specs.declared.status.LimitFault.TheVariants.{TooLong}
+use Rattle.bt_command.specs.declared.status.LimitFault.TheVariants.{TooLong, Nodes}
 use Rattle.bt_command.specs.declared.status.Status.{Status}
 use Rattle.bt_command.specs.declared.status.Status.TheVariants.{Bounded, Usage, Image, Cycles, Assertions, ReadFault, WriteFault, Want, Limit, NotYet}
 
@@ -118,4 +118,5 @@ message_of (ReadFault file) = codes "boundt: 6 ReadFault file " ++ decimal file
 message_of (WriteFault written) = codes "boundt: 7 WriteFault written " ++ decimal written
 message_of Want = codes "boundt: 8 Want"
 message_of (Limit (TooLong file limit)) = codes "boundt: 9 TooLong file " ++ (decimal file ++ (codes " limit " ++ decimal limit))
+message_of (Limit (Nodes count)) = codes "boundt: 9 Nodes count " ++ decimal count
 message_of (NotYet file) = codes "boundt: 10 NotYet file " ++ decimal file

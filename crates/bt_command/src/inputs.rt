@@ -1,5 +1,6 @@
 //! The files of a call, read and checked.
-ghost use Rattle.std.specs.Prelude.{◌≡◌, ◌<◌, ℕ, length, IfOk, IfSome, IsErrOf};
+ghost use Rattle.std.specs.Prelude.{◌≡◌, ◌<◌, ℕ, length, All, IfOk, IfSome, IsErrOf};
+ghost use Rattle.assert_bind.specs.Body.{SpeaksOfCodeIn};
 ghost use Rattle.bt_base.specs.Ask.{IsReading};
 ghost use Rattle.bt_base.specs.Shelf.{TellsTheSame, NoneFalls, Rose};
 ghost use Rattle.bt_image.specs.declared.refusal.ImageRefusal.{ImageRefusal};
@@ -103,6 +104,7 @@ pub fn assertions_from<F: Shelf>(
     ensures counts { NoneFalls (F.faults shelf.old) (F.faults shelf.new) }
     ensures asked { IsReading name.now longest_assertions (F.asked shelf.old) (F.asked shelf.new) }
     ensures accepted { IfOk result (λ binding. HasAssertions (F.told shelf.old name.now) image.now binding) }
+    ensures code { IfOk result (All (SpeaksOfCodeIn image.now)) }
     ensures fault { IsErrOf result NoFile.Fault → Rose (F.faults shelf.old name.now) (F.faults shelf.new name.now) }
     ensures too_long { IsErrOf result NoFile.TooLong → IfSome (F.told shelf.old name.now) (λ bytes. longest_assertions < length bytes) }
     ensures refused { (fault : AssertFault) → IsErrOf result (NoFile.Refused fault) →

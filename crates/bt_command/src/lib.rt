@@ -1,6 +1,7 @@
 //! The commands of boundt, over any shelf of files and any sink.
 #![tactic(auto)]
 
+mod graphing;
 mod inputs;
 mod messages;
 mod reporting;

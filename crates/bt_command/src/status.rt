@@ -50,6 +50,8 @@ pub enum AssertFault {
 pub enum LimitFault {
     /// This file has more than `limit` bytes.
     TooLong { file: u32, limit: u64 },
+    /// The due graph has more program points than its limit; `count` is one more than that limit.
+    Nodes { count: u64 },
 }
 
 impl Status {
@@ -102,6 +104,9 @@ impl Status {
             Status::Want => format!(in alloc; "boundt: 8 Want"),
             Status::Limit(LimitFault::TooLong { file, limit }) => {
                 format!(in alloc; "boundt: 9 TooLong file {file} limit {limit}")
+            }
+            Status::Limit(LimitFault::Nodes { count }) => {
+                format!(in alloc; "boundt: 9 Nodes count {count}")
             }
             Status::NotYet { file } => format!(in alloc; "boundt: 10 NotYet file {file}"),
         };

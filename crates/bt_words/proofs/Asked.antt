@@ -1,11 +1,11 @@
 -- Words without a fault ask for something.
-use Rattle.std.proofs.Common.{◌≡◌, ◌∙◌, List, Option, Some, None, codes, inl, inr, is_some, true, option_map, refl, sym, ap, subst}
+use Rattle.std.proofs.Common.{◌≡◌, ◌∙◌, ◌≤◌, ℕ, List, Option, Some, None, codes, inl, inr, is_some, true, option_map, refl, sym, ap, subst}
 use Rattle.std.specs.Prelude.{option_and_then}
 use Rattle.clap.specs.Words.{Row, Text, first_of, one_of, subcommand_of}
 use Rattle.bt_words.specs.App.{boundt_app}
 use Rattle.bt_words.specs.Law.{FaultlessWordsAsk}
-use Rattle.bt_words.specs.Match.{IsBoundMatch, IsMatch, IsMatched}
-use Rattle.bt_words.specs.Request.{Asked, HasWorkers, asked_by, bound_asked, bounds, lists, number_of}
+use Rattle.bt_words.specs.Match.{IsFilesMatch, IsMatch, IsMatched}
+use Rattle.bt_words.specs.Request.{Asked, HasWorkers, asked_by, bounds, files_asked, graphs, lists, number_of}
 use Rattle.bt_words.proofs.Matches.{matched}
 use Rattle.bt_words.proofs.Numbers.{number_as_it_is, number_within}
 
@@ -13,27 +13,30 @@ some_value : {X : Type 0} (o : Option X) → is_some o ≡ true → (x : X) × (
 some_value None e = cc
 some_value (Some x) e = (x, refl)
 
-abbrev all_of_bound : Option Text → Option Text → Option Text → Option Text → Option Asked
-all_of_bound image cycles assertions workers =
-    option_and_then (λ i. option_and_then (λ c. option_and_then (λ a. option_map (λ n. bounds i c a (number_of n)) workers) assertions) cycles) image
+abbrev all_of_files : (Text → Text → Text → ℕ → Asked) → Option Text → Option Text → Option Text → Option Text → Option Asked
+all_of_files make image cycles assertions workers =
+    option_and_then (λ i. option_and_then (λ c. option_and_then (λ a. option_map (λ n. make i c a (number_of n)) workers) assertions) cycles) image
 
 abbrev IsAnswer : Option Asked → Type 0
 IsAnswer o = (asked : Asked) × (o ≡ Some asked) × HasWorkers asked
 
-bound_answer : (rows : List Row) → IsBoundMatch rows → IsAnswer (bound_asked rows)
-bound_answer rows h =
+files_answer : (make : Text → Text → Text → ℕ → Asked)
+    → ((i c a : Text) (n : ℕ) → (1 ≤ n) × (n ≤ 64) → HasWorkers (make i c a n)) → (rows : List Row) → IsFilesMatch rows → IsAnswer (files_asked make rows)
+files_answer make within rows h =
     let image = some_value (first_of (codes "IMAGE") rows) h.image in
     let cycles = some_value (first_of (codes "CYCLES") rows) h.cycles in
     let assertions = some_value (first_of (codes "ASSERTIONS") rows) h.assertions in
     let read : one_of (codes "workers") rows ≡ Some h.workers.text = h.workers.read ∙ ap Some (number_as_it_is h.workers.text h.workers.within) in (
-      bounds image.0 cycles.0 assertions.0 (number_of h.workers.text),
-      (λ i. all_of_bound (image.1 i) (cycles.1 i) (assertions.1 i) (read i)),
-      number_within h.workers.text h.workers.within,
+      make image.0 cycles.0 assertions.0 (number_of h.workers.text),
+      (λ i. all_of_files make (image.1 i) (cycles.1 i) (assertions.1 i) (read i)),
+      within image.0 cycles.0 assertions.0 (number_of h.workers.text) (number_within h.workers.text h.workers.within),
     )
 
 answer : (name : Text) (rows : List Row) → IsMatch name rows → IsAnswer (asked_by name rows)
-answer name rows (inl h) = subst (λ (n : Text). IsAnswer (asked_by n rows)) (sym h.0) (bound_answer rows h.1)
-answer name rows (inr h) =
+answer name rows (inl h) = subst (λ (n : Text). IsAnswer (asked_by n rows)) (sym h.0) (files_answer (λ i c a n. bounds i c a n) (λ i c a n w. w) rows h.1)
+answer name rows (inr (inl h)) =
+    subst (λ (n : Text). IsAnswer (asked_by n rows)) (sym h.0) (files_answer (λ i c a n. graphs i c a n) (λ i c a n w. w) rows h.1)
+answer name rows (inr (inr h)) =
     let image = some_value (first_of (codes "IMAGE") rows) h.1 in
     subst (λ (n : Text). IsAnswer (asked_by n rows)) (sym h.0) (lists image.0, ap (option_map (λ i. lists i)) image.1, tt)
 

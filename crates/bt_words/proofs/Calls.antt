@@ -12,9 +12,9 @@ use Rattle.clap.specs.Values.{IsSignedIn, refused_kind}
 use Rattle.clap.specs.declared.builder.value_parser.ValueParser.TheVariants as vp
 use Rattle.clap.proofs.ValueTestLemmas.{Accepts-accepts}
 use Rattle.clap.proofs.OnLiterals.{clap_on_literals}
-use Rattle.bt_words.proofs.Matches.{bound_built, decode_built}
+use Rattle.bt_words.proofs.Matches.{decode_built, files_built}
 use Rattle.bt_words.proofs.Numbers.{number_as_it_is, number_is_name, number_within}
-use Rattle.bt_words.specs.Request.{IsRequest, asked_by, bounds, lists, number_of, requested}
+use Rattle.bt_words.specs.Request.{IsRequest, asked_by, bounds, graphs, lists, number_of, requested}
 use Rattle.bt_words.specs.Law.{is_name}
 
 -- what the lexer makes of a name
@@ -101,104 +101,144 @@ after_walk s end =
 
 -- ---- three names
 
-module _ (image cycles assertions : Text) (is_image : is_name image ≡ true) (is_cycles : is_name cycles ≡ true) (is_assertions : is_name assertions ≡ true) where
+module _ (command image cycles assertions : Text) (is_image : is_name image ≡ true) (is_cycles : is_name cycles ≡ true) (is_assertions : is_name assertions ≡ true) where
   abbrev before : Walk
   before = walk_from nothing_held
 
   abbrev one : Walk
-  one = put bound_built before image
+  one = put (files_built command) before image
 
   abbrev two : Walk
-  two = put bound_built one cycles
+  two = put (files_built command) one cycles
 
   abbrev three : Walk
-  three = put bound_built two assertions
+  three = put (files_built command) two assertions
 
-  three_walked : fold (walked bound_built.rules []) before (image ∷ cycles ∷ assertions ∷ []) ≡ three
+  three_walked : fold (walked (files_built command).rules []) before (image ∷ cycles ∷ assertions ∷ []) ≡ three
   three_walked =
-      ap (λ (v : Walk). walked bound_built.rules [] (walked bound_built.rules [] v cycles) assertions) (put_is bound_built before image is_image)
-      ∙ ap (λ (v : Walk). walked bound_built.rules [] v assertions) (put_is bound_built one cycles is_cycles)
-      ∙ put_is bound_built two assertions is_assertions
+      ap (λ (v : Walk). walked (files_built command).rules [] (walked (files_built command).rules [] v cycles) assertions) (put_is (files_built command) before image is_image)
+      ∙ ap (λ (v : Walk). walked (files_built command).rules [] v assertions) (put_is (files_built command) one cycles is_cycles)
+      ∙ put_is (files_built command) two assertions is_assertions
 
-  three_fault : (rest : List Text) → walk_fault bound_built [] before (image ∷ cycles ∷ assertions ∷ rest) ≡ walk_fault bound_built [] three rest
+  three_fault : (rest : List Text) → walk_fault (files_built command) [] before (image ∷ cycles ∷ assertions ∷ rest) ≡ walk_fault (files_built command) [] three rest
   three_fault rest =
-      name_then bound_built before image is_image (cycles ∷ assertions ∷ rest) refl ∙ name_then bound_built one cycles is_cycles (assertions ∷ rest) refl
-      ∙ name_then bound_built two assertions is_assertions rest refl
+      name_then (files_built command) before image is_image (cycles ∷ assertions ∷ rest) refl ∙ name_then (files_built command) one cycles is_cycles (assertions ∷ rest) refl
+      ∙ name_then (files_built command) two assertions is_assertions rest refl
 
   -- a level of which the walk ends here without a fault, and the checks after it
-  three_level : level_fault bound_built [] nothing_held (image ∷ cycles ∷ assertions ∷ []) false [] ≡ []
+  three_level : level_fault (files_built command) [] nothing_held (image ∷ cycles ∷ assertions ∷ []) false [] ≡ []
   unfolding clap_on_literals
   three_level =
-      both_none _ _ (three_fault []) (ap (λ (v : Walk). after_walk bound_built v.held) three_walked)
-
-  three_rows : requested (codes "bound" ∷ image ∷ cycles ∷ assertions ∷ []) ≡ Some (bounds image cycles assertions 1)
-  unfolding clap_on_literals
-  three_rows = ap (λ (v : Walk). asked_by (codes "bound") (finished bound_built.rules v.held)) three_walked
-
-  pub three_asked : IsRequest (codes "bound" ∷ image ∷ cycles ∷ assertions ∷ []) (bounds image cycles assertions 1)
-  unfolding clap_on_literals
-  three_asked = record {
-    faultless = both_none (level_fault bound_built [] nothing_held (image ∷ cycles ∷ assertions ∷ []) false []) _ three_level refl;
-    asks = three_rows;
-    workers = (omega arith, omega arith);
-  }
+      both_none _ _ (three_fault []) (ap (λ (v : Walk). after_walk (files_built command) v.held) three_walked)
 
   -- ---- and a number of workers
 
   abbrev four : Walk
   four = record {
-    held = record { rows = (settled bound_built.rules three.held).rows; pending = Some (codes "workers", []); skip = 0 };
+    held = record { rows = (settled (files_built command).rules three.held).rows; pending = Some (codes "workers", []); skip = 0 };
     waiting = option (codes "workers");
     position = 4;
     is_trailing = false;
     stopped = None;
   }
 
-  four_walked : walked bound_built.rules [] three (codes "--workers") ≡ four
+  four_walked : walked (files_built command).rules [] three (codes "--workers") ≡ four
   unfolding clap_on_literals
   four_walked = refl
 
-  four_fault : (rest : List Text) → walk_fault bound_built [] three (codes "--workers" ∷ rest) ≡ walk_fault bound_built [] four rest
+  four_fault : (rest : List Text) → walk_fault (files_built command) [] three (codes "--workers" ∷ rest) ≡ walk_fault (files_built command) [] four rest
   unfolding clap_on_literals
   four_fault rest = refl
 
   module _ (number : Text) (within : IsSignedIn (pos 1) (pos 64) number) where
     abbrev five : Walk
-    five = put_in_option bound_built four (codes "workers") number
+    five = put_in_option (files_built command) four (codes "workers") number
 
-    five_walked : fold (walked bound_built.rules []) before (image ∷ cycles ∷ assertions ∷ codes "--workers" ∷ number ∷ []) ≡ five
+    five_walked : fold (walked (files_built command).rules []) before (image ∷ cycles ∷ assertions ∷ codes "--workers" ∷ number ∷ []) ≡ five
     five_walked =
-        ap (λ (v : Walk). walked bound_built.rules [] (walked bound_built.rules [] v (codes "--workers")) number) three_walked
-        ∙ ap (λ (v : Walk). walked bound_built.rules [] v number) four_walked
-        ∙ option_is bound_built four (codes "workers") number (number_is_name number within)
+        ap (λ (v : Walk). walked (files_built command).rules [] (walked (files_built command).rules [] v (codes "--workers")) number) three_walked
+        ∙ ap (λ (v : Walk). walked (files_built command).rules [] v number) four_walked
+        ∙ option_is (files_built command) four (codes "workers") number (number_is_name number within)
 
-    five_fault : walk_fault bound_built [] before (image ∷ cycles ∷ assertions ∷ codes "--workers" ∷ number ∷ []) ≡ []
+    five_fault : walk_fault (files_built command) [] before (image ∷ cycles ∷ assertions ∷ codes "--workers" ∷ number ∷ []) ≡ []
     unfolding clap_on_literals
     five_fault =
         three_fault (codes "--workers" ∷ number ∷ []) ∙ four_fault (number ∷ [])
-        ∙ option_then bound_built four (codes "workers") number (number_is_name number within) []
+        ∙ option_then (files_built command) four (codes "workers") number (number_is_name number within) []
 
-    five_checked : after_walk bound_built five.held ≡ []
+    five_checked : after_walk (files_built command) five.held ≡ []
     unfolding clap_on_literals
     five_checked =
         let accepted = Accepts-accepts false (vp.Signed (pos 1) (pos 64)) number within in
         let passed : value_kinds false (vp.Signed (pos 1) (pos 64)) number ≡ [] = ap (λ b. cond b [] (refused_kind (vp.Signed (pos 1) (pos 64)) ∷ [])) accepted in
         both_none _ _ (both_none (value_kinds false (vp.Signed (pos 1) (pos 64)) number) [] passed refl) refl
 
-    five_level : level_fault bound_built [] nothing_held (image ∷ cycles ∷ assertions ∷ codes "--workers" ∷ number ∷ []) false [] ≡ []
-    five_level = both_none _ _ five_fault (ap (λ (v : Walk). after_walk bound_built v.held) five_walked ∙ five_checked)
+    five_level : level_fault (files_built command) [] nothing_held (image ∷ cycles ∷ assertions ∷ codes "--workers" ∷ number ∷ []) false [] ≡ []
+    five_level = both_none _ _ five_fault (ap (λ (v : Walk). after_walk (files_built command) v.held) five_walked ∙ five_checked)
 
-    five_rows : requested (codes "bound" ∷ image ∷ cycles ∷ assertions ∷ codes "--workers" ∷ number ∷ []) ≡ Some (bounds image cycles assertions (number_of number))
+-- ---- the commands by their names
+
+module _ (image cycles assertions : Text) (is_image : is_name image ≡ true) (is_cycles : is_name cycles ≡ true) (is_assertions : is_name assertions ≡ true) where
+  bound_three_rows : requested (codes "bound" ∷ image ∷ cycles ∷ assertions ∷ []) ≡ Some (bounds image cycles assertions 1)
+  unfolding clap_on_literals
+  bound_three_rows =
+      ap (λ (v : Walk). asked_by (codes "bound") (finished (files_built (codes "bound")).rules v.held))
+      (three_walked (codes "bound") image cycles assertions is_image is_cycles is_assertions)
+
+  pub bound_three_asked : IsRequest (codes "bound" ∷ image ∷ cycles ∷ assertions ∷ []) (bounds image cycles assertions 1)
+  unfolding clap_on_literals
+  bound_three_asked = record {
+    faultless = both_none (level_fault (files_built (codes "bound")) [] nothing_held (image ∷ cycles ∷ assertions ∷ []) false []) _
+        (three_level (codes "bound") image cycles assertions is_image is_cycles is_assertions) refl;
+    asks = bound_three_rows;
+    workers = (omega arith, omega arith);
+  }
+
+  graph_three_rows : requested (codes "graph" ∷ image ∷ cycles ∷ assertions ∷ []) ≡ Some (graphs image cycles assertions 1)
+  unfolding clap_on_literals
+  graph_three_rows =
+      ap (λ (v : Walk). asked_by (codes "graph") (finished (files_built (codes "graph")).rules v.held))
+      (three_walked (codes "graph") image cycles assertions is_image is_cycles is_assertions)
+
+  pub graph_three_asked : IsRequest (codes "graph" ∷ image ∷ cycles ∷ assertions ∷ []) (graphs image cycles assertions 1)
+  unfolding clap_on_literals
+  graph_three_asked = record {
+    faultless = both_none (level_fault (files_built (codes "graph")) [] nothing_held (image ∷ cycles ∷ assertions ∷ []) false []) _
+        (three_level (codes "graph") image cycles assertions is_image is_cycles is_assertions) refl;
+    asks = graph_three_rows;
+    workers = (omega arith, omega arith);
+  }
+
+  module _ (number : Text) (within : IsSignedIn (pos 1) (pos 64) number) where
+    bound_five_rows : requested (codes "bound" ∷ image ∷ cycles ∷ assertions ∷ codes "--workers" ∷ number ∷ []) ≡ Some (bounds image cycles assertions (number_of number))
     unfolding clap_on_literals
-    five_rows =
-        ap (λ (v : Walk). asked_by (codes "bound") (finished bound_built.rules v.held)) five_walked
+    bound_five_rows =
+        ap (λ (v : Walk). asked_by (codes "bound") (finished (files_built (codes "bound")).rules v.held))
+        (five_walked (codes "bound") image cycles assertions is_image is_cycles is_assertions number within)
         ∙ ap (λ (t : Text). Some (bounds image cycles assertions (number_of t))) (number_as_it_is number within)
 
-    pub five_asked : IsRequest (codes "bound" ∷ image ∷ cycles ∷ assertions ∷ codes "--workers" ∷ number ∷ []) (bounds image cycles assertions (number_of number))
+    pub bound_five_asked : IsRequest (codes "bound" ∷ image ∷ cycles ∷ assertions ∷ codes "--workers" ∷ number ∷ []) (bounds image cycles assertions (number_of number))
     unfolding clap_on_literals
-    five_asked = record {
-      faultless = both_none (level_fault bound_built [] nothing_held (image ∷ cycles ∷ assertions ∷ codes "--workers" ∷ number ∷ []) false []) _ five_level refl;
-      asks = five_rows;
+    bound_five_asked = record {
+      faultless = both_none (level_fault (files_built (codes "bound")) [] nothing_held (image ∷ cycles ∷ assertions ∷ codes "--workers" ∷ number ∷ []) false []) _
+          (five_level (codes "bound") image cycles assertions is_image is_cycles is_assertions number within) refl;
+      asks = bound_five_rows;
+      workers = number_within number within;
+    }
+
+    graph_five_rows : requested (codes "graph" ∷ image ∷ cycles ∷ assertions ∷ codes "--workers" ∷ number ∷ []) ≡ Some (graphs image cycles assertions (number_of number))
+    unfolding clap_on_literals
+    graph_five_rows =
+        ap (λ (v : Walk). asked_by (codes "graph") (finished (files_built (codes "graph")).rules v.held))
+        (five_walked (codes "graph") image cycles assertions is_image is_cycles is_assertions number within)
+        ∙ ap (λ (t : Text). Some (graphs image cycles assertions (number_of t))) (number_as_it_is number within)
+
+    pub graph_five_asked : IsRequest (codes "graph" ∷ image ∷ cycles ∷ assertions ∷ codes "--workers" ∷ number ∷ []) (graphs image cycles assertions (number_of number))
+    unfolding clap_on_literals
+    graph_five_asked = record {
+      faultless = both_none (level_fault (files_built (codes "graph")) [] nothing_held (image ∷ cycles ∷ assertions ∷ codes "--workers" ∷ number ∷ []) false []) _
+          (five_level (codes "graph") image cycles assertions is_image is_cycles is_assertions number within) refl;
+      asks = graph_five_rows;
       workers = number_within number within;
     }
 

@@ -18,8 +18,8 @@ use Rattle.clap.specs.declared.error.ErrorKind.{ErrorKind}
 use Rattle.clap.specs.declared.parser.matches.ValueSource.{ValueSource}
 use Rattle.clap.specs.declared.parser.matches.ValueSource.TheVariants.{DefaultValue}
 use Rattle.clap.proofs.ValueTestLemmas.{accepts-Accepts}
-use Rattle.bt_words.specs.App.{bound_shape, boundt_app, decode_shape, workers_rule}
-use Rattle.bt_words.specs.Match.{HasNumber, HasText, IsBoundMatch, IsMatched}
+use Rattle.bt_words.specs.App.{boundt_app, decode_shape, files_shape, workers_rule}
+use Rattle.bt_words.specs.Match.{HasNumber, HasText, IsFilesMatch, IsMatched}
 use Rattle.bt_words.proofs.Rows.{Each, Fits, IsFit, IsPlainRule, both_pass, each_found, some_injective}
 use Rattle.bt_words.proofs.Walks.{level_fits}
 
@@ -106,8 +106,14 @@ first_of_row a (v ∷ vs) lt e = (v, refl, passed _ _ (both_pass _ _ e).0)
 abbrev pub built_sub : Shape → Shape
 built_sub s = built_leaf (inherited (on_top with_leaf_noted (on_top marked_built boundt_app)).top s)
 
+abbrev pub files_built : Text → Shape
+files_built command = built_sub (files_shape command)
+
 abbrev pub bound_built : Shape
-bound_built = built_sub bound_shape
+bound_built = files_built (codes "bound")
+
+abbrev pub graph_built : Shape
+graph_built = files_built (codes "graph")
 
 abbrev pub decode_built : Shape
 decode_built = built_sub decode_shape
@@ -118,16 +124,16 @@ rule_in s id = unwrap_or (arg_by_id s.rules id) workers_rule
 abbrev workers_built : Rule
 workers_built = rule_in bound_built (codes "workers")
 
-bound_plain : Each (IsPlainRule bound_built.rules) bound_built.rules
-bound_plain = ((refl, omega arith, refl), ((refl, omega arith, refl), ((refl, omega arith, refl), ((refl, omega arith, refl), tt))))
+files_plain : (command : Text) → Each (IsPlainRule (files_built command).rules) (files_built command).rules
+files_plain command = ((refl, omega arith, refl), ((refl, omega arith, refl), ((refl, omega arith, refl), ((refl, omega arith, refl), tt))))
 
 decode_plain : Each (IsPlainRule decode_built.rules) decode_built.rules
 decode_plain = ((refl, omega arith, refl), tt)
 
-has_number : (rows : List Row) → Each (IsFit bound_built.rules) rows → has_row (codes "workers") rows ≡ true → HasNumber rows
-has_number rows fits there =
+has_number : (command : Text) (rows : List Row) → Each (IsFit (files_built command).rules) rows → has_row (codes "workers") rows ≡ true → HasNumber rows
+has_number command rows fits there =
     let row = row_there (codes "workers") rows there in
-    let fit = fit_row bound_built.rules workers_built (codes "workers") rows row.0 fits refl row.1 in
+    let fit = fit_row (files_built command).rules workers_built (codes "workers") rows row.0 fits refl row.1 in
     let first = first_of_row workers_built row.0.values fit.0 fit.1 in
     record {
       text = first.0;
@@ -145,17 +151,17 @@ one_given : (x : Bool) → check_kinds false false (not x || false) ≡ [] → x
 one_given true e = refl
 one_given false e = cc
 
-bound_matched : (words : List Text) → level_fault bound_built [] nothing_held words false [] ≡ [] → IsBoundMatch (rows_after bound_built.rules [] words)
-bound_matched words e =
-    let level = level_fits bound_built bound_plain [] words false [] e in
-    let rows = rows_after bound_built.rules [] words in
+files_matched : (command : Text) (words : List Text) → level_fault (files_built command) [] nothing_held words false [] ≡ [] → IsFilesMatch (rows_after (files_built command).rules [] words)
+files_matched command words e =
+    let level = level_fits (files_built command) (files_plain command) [] words false [] e in
+    let rows = rows_after (files_built command).rules [] words in
     let given = all_given (is_given (codes "IMAGE") rows) (is_given (codes "CYCLES") rows) (is_given (codes "ASSERTIONS") rows) level.2 in
     record {
-      image = given_text bound_built.rules (rule_in bound_built (codes "IMAGE")) (codes "IMAGE") rows level.0 refl given.0;
-      cycles = given_text bound_built.rules (rule_in bound_built (codes "CYCLES")) (codes "CYCLES") rows level.0 refl given.1;
-      assertions = given_text bound_built.rules (rule_in bound_built (codes "ASSERTIONS")) (codes "ASSERTIONS") rows level.0 refl given.2;
-      workers = has_number rows level.0 (default_last (rule_in bound_built (codes "IMAGE")) (rule_in bound_built (codes "CYCLES")) (rule_in bound_built (codes "ASSERTIONS"))
-          workers_built (codes "1") [] (settled bound_built.rules (walk bound_built.rules [] nothing_held words).held).rows refl refl);
+      image = given_text (files_built command).rules (rule_in (files_built command) (codes "IMAGE")) (codes "IMAGE") rows level.0 refl given.0;
+      cycles = given_text (files_built command).rules (rule_in (files_built command) (codes "CYCLES")) (codes "CYCLES") rows level.0 refl given.1;
+      assertions = given_text (files_built command).rules (rule_in (files_built command) (codes "ASSERTIONS")) (codes "ASSERTIONS") rows level.0 refl given.2;
+      workers = has_number command rows level.0 (default_last (rule_in (files_built command) (codes "IMAGE")) (rule_in (files_built command) (codes "CYCLES")) (rule_in (files_built command) (codes "ASSERTIONS"))
+          workers_built (codes "1") [] (settled (files_built command).rules (walk (files_built command).rules [] nothing_held words).held).rows refl refl);
     }
 
 decode_matched : (words : List Text) → level_fault decode_built [] nothing_held words false [] ≡ [] → HasText (codes "IMAGE") (rows_after decode_built.rules [] words)
@@ -169,13 +175,14 @@ decode_matched words e =
 abbrev pub top_built : App
 top_built = built boundt_app
 
-entered_matched : (rows : List Row) (words : List Text) (b d : Bool)
-    → option_map_or (λ s. level_fault s [] nothing_held words false []) (cond b (Some bound_built) (cond d (Some decode_built) None)) [] ≡ []
-    → check_fault top_built.top rows (is_some (option_map (λ s. rows_at s words) (cond b (Some bound_built) (cond d (Some decode_built) None)))) ≡ []
-    → IsMatched (option_map (λ s. rows_at s words) (cond b (Some bound_built) (cond d (Some decode_built) None)))
-entered_matched rows words true d e check = inl (refl, bound_matched words e)
-entered_matched rows words false true e check = inr (refl, decode_matched words e)
-entered_matched rows words false false e check = cc
+entered_matched : (rows : List Row) (words : List Text) (b g d : Bool)
+    → option_map_or (λ s. level_fault s [] nothing_held words false []) (cond b (Some bound_built) (cond g (Some graph_built) (cond d (Some decode_built) None))) [] ≡ []
+    → check_fault top_built.top rows (is_some (option_map (λ s. rows_at s words) (cond b (Some bound_built) (cond g (Some graph_built) (cond d (Some decode_built) None))))) ≡ []
+    → IsMatched (option_map (λ s. rows_at s words) (cond b (Some bound_built) (cond g (Some graph_built) (cond d (Some decode_built) None))))
+entered_matched rows words true g d e check = inl (refl, files_matched (codes "bound") words e)
+entered_matched rows words false true d e check = inr (inl (refl, files_matched (codes "graph") words e))
+entered_matched rows words false false true e check = inr (inr (refl, decode_matched words e))
+entered_matched rows words false false false e check = cc
 
 pub matched : (words : List Text) → fault_of boundt_app words ≡ [] → IsMatched (subcommand_of boundt_app words)
 matched words e =
@@ -187,4 +194,5 @@ matched words e =
         → check_fault top_built.top (rows_after top_built.top.rules (names_of top_built) words) (is_some (entered top_built o)) ≡ []
         → IsMatched (entered top_built o)
     go None e check = cc
-    go (Some p) e check = entered_matched (rows_after top_built.top.rules (names_of top_built) words) p.1 (answers_to p.0 (label_of bound_built)) (answers_to p.0 (label_of decode_built)) e check
+    go (Some p) e check = entered_matched (rows_after top_built.top.rules (names_of top_built) words) p.1 (answers_to p.0 (label_of bound_built))
+        (answers_to p.0 (label_of graph_built)) (answers_to p.0 (label_of decode_built)) e check

@@ -1,5 +1,5 @@
 -- The command line of boundt, as what a parse reads of it: the command `boundt`, which has no argument of its
--- own, with its subcommands `bound` and `decode`.
+-- own, with its subcommands `bound`, `graph` and `decode`.
 use Rattle.std.specs.Prelude.{true, false, Some, [], ◌∷◌, codes, pos}
 use Rattle.clap.specs.Words.{App, Rule, Shape, Text, new_rule}
 use Rattle.clap.specs.Simple.{new_shape}
@@ -17,15 +17,29 @@ workers_rule = record (new_rule (codes "workers")) {
   parser = Some (vp.Signed (pos 1) (pos 64));
 }
 
--- `bound IMAGE CYCLES ASSERTIONS [--workers N]`
-abbrev pub bound_shape : Shape
-bound_shape = record (new_shape (codes "bound")) {
+-- a subcommand that is given `IMAGE CYCLES ASSERTIONS [--workers N]`
+abbrev pub files_shape : Text → Shape
+files_shape command = record (new_shape command) {
   rules = name_rule (codes "IMAGE") ∷ name_rule (codes "CYCLES") ∷ name_rule (codes "ASSERTIONS")
       ∷ workers_rule ∷ [];
 }
 
+abbrev pub files_app : Text → App
+files_app command = record { top = files_shape command; subs = [] }
+
+-- `bound IMAGE CYCLES ASSERTIONS [--workers N]`
+abbrev pub bound_shape : Shape
+bound_shape = files_shape (codes "bound")
+
 abbrev pub bound_app : App
 bound_app = record { top = bound_shape; subs = [] }
+
+-- `graph IMAGE CYCLES ASSERTIONS [--workers N]`
+abbrev pub graph_shape : Shape
+graph_shape = files_shape (codes "graph")
+
+abbrev pub graph_app : App
+graph_app = record { top = graph_shape; subs = [] }
 
 -- `decode IMAGE`
 abbrev pub decode_shape : Shape
@@ -45,5 +59,9 @@ boundt_shape = record (new_shape (codes "boundt")) {
   subcommand_required = true;
 }
 
+-- with its first two subcommands, and with all
+abbrev pub two_app : App
+two_app = record { top = boundt_shape; subs = bound_shape ∷ graph_shape ∷ [] }
+
 abbrev pub boundt_app : App
-boundt_app = record { top = boundt_shape; subs = bound_shape ∷ decode_shape ∷ [] }
+boundt_app = record { top = boundt_shape; subs = bound_shape ∷ graph_shape ∷ decode_shape ∷ [] }

@@ -12,8 +12,8 @@ pub record HasNumber (rows : List Row) : Type 0 where
   pub read : one_of (codes "workers") rows ≡ Some (without_minus text)
   pub within : IsSignedIn (pos 1) (pos 64) text
 
--- all that `bound` asks for is there
-pub record IsBoundMatch (rows : List Row) : Type 0 where
+-- all that `bound` and `graph` ask for is there
+pub record IsFilesMatch (rows : List Row) : Type 0 where
   pub image : HasText (codes "IMAGE") rows
   pub cycles : HasText (codes "CYCLES") rows
   pub assertions : HasText (codes "ASSERTIONS") rows
@@ -21,8 +21,8 @@ pub record IsBoundMatch (rows : List Row) : Type 0 where
 
 -- all that the subcommand of this name asks for is there
 abbrev pub IsMatch : Text → List Row → Type 0
-IsMatch name rows = ((name ≡ codes "bound") × IsBoundMatch rows)
-    ⊎ ((name ≡ codes "decode") × HasText (codes "IMAGE") rows)
+IsMatch name rows = ((name ≡ codes "bound") × IsFilesMatch rows)
+    ⊎ (((name ≡ codes "graph") × IsFilesMatch rows) ⊎ ((name ≡ codes "decode") × HasText (codes "IMAGE") rows))
 
 -- a subcommand is entered, and all that it asks for is there
 abbrev pub IsMatched : Option (Text × List Row) → Type 0

@@ -8,28 +8,29 @@ use Rattle.clap.specs.declared.error.ErrorKind.{ErrorKind}
 use Rattle.clap.specs.declared.error.ErrorKind.TheVariants.{OutOfMemory}
 use Rattle.bt_words.specs.App.{boundt_app}
 use Rattle.bt_words.specs.declared.request.Request.{Request}
-use Rattle.bt_words.specs.declared.request.Request.TheVariants.{Bound, Decode}
+use Rattle.bt_words.specs.declared.request.Request.TheVariants.{Bound, Graph, Decode}
 
 -- the bytes of each word
 abbrev pub texts : List (String Global) → List Text
 texts words = map string_bytes words
 
--- what a call asks for: a bound, of these three names and with so many workers, or a listing of this name
+-- what a call asks for: a bound or a graph, of these three names and with so many workers, or a listing of this name
 pub data Asked : Type 0 where
   bounds : Text → Text → Text → ℕ → Asked
+  graphs : Text → Text → Text → ℕ → Asked
   lists : Text → Asked
 
 -- the number that decimal digits write, also after a sign +
 abbrev pub number_of : Text → ℕ
 number_of text = digits_value 10 (without_leading_plus text)
 
--- what the matches of `bound` ask for
-abbrev pub bound_asked : List Row → Option Asked
-bound_asked rows =
+-- what is made of three names and a number of workers that matches hold
+abbrev pub files_asked : (Text → Text → Text → ℕ → Asked) → List Row → Option Asked
+files_asked make rows =
     option_and_then (λ image.
     option_and_then (λ cycles.
     option_and_then (λ assertions.
-    option_map (λ workers. bounds image cycles assertions (number_of workers))
+    option_map (λ workers. make image cycles assertions (number_of workers))
     (one_of (codes "workers") rows))
     (first_of (codes "ASSERTIONS") rows))
     (first_of (codes "CYCLES") rows))
@@ -42,8 +43,9 @@ decode_asked rows = option_map (λ image. lists image) (first_of (codes "IMAGE")
 -- what the matches of the subcommand of this name ask for
 abbrev pub asked_by : Text → List Row → Option Asked
 asked_by name rows =
-    if bytes_eq name (codes "bound") then bound_asked rows
-    else (if bytes_eq name (codes "decode") then decode_asked rows else None)
+    if bytes_eq name (codes "bound") then files_asked bounds rows
+    else (if bytes_eq name (codes "graph") then files_asked graphs rows
+    else (if bytes_eq name (codes "decode") then decode_asked rows else None))
 
 -- what the words ask for
 abbrev pub requested : List Text → Option Asked
@@ -52,11 +54,13 @@ requested words = option_and_then (λ p. asked_by p.0 p.1) (subcommand_of boundt
 -- the same, of a request
 abbrev pub asked_of : Request → Asked
 asked_of (Bound image cycles assertions workers) = bounds image.now cycles.now assertions.now workers
+asked_of (Graph image cycles assertions workers) = graphs image.now cycles.now assertions.now workers
 asked_of (Decode image) = lists image.now
 
 -- there are from 1 to 64 workers
 abbrev pub HasWorkers : Asked → Type 0
 HasWorkers (bounds image cycles assertions workers) = (1 ≤ workers) × (workers ≤ 64)
+HasWorkers (graphs image cycles assertions workers) = (1 ≤ workers) × (workers ≤ 64)
 HasWorkers (lists image) = ⊤
 
 -- the words are without a fault, and ask for this

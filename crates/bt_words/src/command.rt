@@ -2,7 +2,7 @@
 ghost use Rattle.std.specs.Prelude.{◌≡◌, IfOk, false};
 ghost use Rattle.clap.specs.Words.{app_of, rule_of};
 ghost use Rattle.clap.specs.declared.builder.Command.TheViews.{out-Command as fields_of};
-ghost use Rattle.bt_words.specs.App.{bound_app, boundt_app, decode_app, name_rule, workers_rule};
+ghost use Rattle.bt_words.specs.App.{bound_app, boundt_app, decode_app, files_app, graph_app, name_rule, two_app, workers_rule};
 
 use clap::{Arg, Command, value_parser};
 use std::alloc::{AllocError, Global};
@@ -26,20 +26,36 @@ fn workers<'a>(alloc: Global) -> Arg<'a>
         .default_value("1")
 }
 
-/// `bound IMAGE CYCLES ASSERTIONS [--workers N]`.
-fn bound<'a>(alloc: Global) -> Result<Command<'a>, AllocError>
-    ensures app { IfOk result (λ c. app_of c ≡ bound_app) }
+/// A subcommand that is given `IMAGE CYCLES ASSERTIONS [--workers N]`.
+fn files<'a>(alloc: Global, command: &'a str) -> Result<Command<'a>, AllocError>
+    ensures app { IfOk result (λ c. app_of c ≡ files_app command.entry.now) }
     ensures local { IfOk result (λ c. (fields_of c).has_globals ≡ false) }
 {
     let image = name(alloc, "IMAGE");
     let cycles = name(alloc, "CYCLES");
     let assertions = name(alloc, "ASSERTIONS");
     let workers = workers(alloc);
-    let empty = Command::new(alloc, "bound");
+    let empty = Command::new(alloc, command);
     let one = empty.arg(image)?;
     let two = one.arg(cycles)?;
     let three = two.arg(assertions)?;
     three.arg(workers)
+}
+
+/// `bound IMAGE CYCLES ASSERTIONS [--workers N]`.
+fn bound<'a>(alloc: Global) -> Result<Command<'a>, AllocError>
+    ensures app { IfOk result (λ c. app_of c ≡ bound_app) }
+    ensures local { IfOk result (λ c. (fields_of c).has_globals ≡ false) }
+{
+    files(alloc, "bound")
+}
+
+/// `graph IMAGE CYCLES ASSERTIONS [--workers N]`.
+fn graph<'a>(alloc: Global) -> Result<Command<'a>, AllocError>
+    ensures app { IfOk result (λ c. app_of c ≡ graph_app) }
+    ensures local { IfOk result (λ c. (fields_of c).has_globals ≡ false) }
+{
+    files(alloc, "graph")
 }
 
 /// `decode IMAGE`.
@@ -51,17 +67,26 @@ fn decode<'a>(alloc: Global) -> Result<Command<'a>, AllocError>
     Command::new(alloc, "decode").arg(image)
 }
 
-/// The whole command line. Its words begin after the program's name, and it has neither help nor version.
-pub(crate) fn boundt<'a>(alloc: Global) -> Result<Command<'a>, AllocError>
-    ensures { IfOk result (λ c. app_of c ≡ boundt_app) }
+/// The command line with its first two subcommands.
+fn with_two<'a>(alloc: Global) -> Result<Command<'a>, AllocError>
+    ensures { IfOk result (λ c. app_of c ≡ two_app) }
 {
     let bound = bound(alloc)?;
-    let decode = decode(alloc)?;
+    let graph = graph(alloc)?;
     let top = Command::new(alloc, "boundt")
         .no_binary_name(true)
         .disable_help_flag(true)
         .disable_help_subcommand(true)
         .subcommand_required(true);
     let first = top.subcommand(bound)?;
-    first.subcommand(decode)
+    first.subcommand(graph)
+}
+
+/// The whole command line. Its words begin after the program's name, and it has neither help nor version.
+pub(crate) fn boundt<'a>(alloc: Global) -> Result<Command<'a>, AllocError>
+    ensures { IfOk result (λ c. app_of c ≡ boundt_app) }
+{
+    let two = with_two(alloc)?;
+    let decode = decode(alloc)?;
+    two.subcommand(decode)
 }

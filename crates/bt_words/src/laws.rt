@@ -1,17 +1,18 @@
 //! Facts about command lines: each is the contract of a function that does nothing.
 ghost use Rattle.bt_words.specs.Law.{CommandsComeFirst, FaultlessWordsAsk, OneNameAsks, ThreeNamesAsk, WorkersAreAsked};
 
-/// Words without a fault ask for something, a bound with from 1 to 64 workers.
+/// Words without a fault ask for something, a bound or a graph with from 1 to 64 workers.
 pub fn faultless_words_ask()
     ensures { FaultlessWordsAsk }
 {}
 
-/// `bound` with three names asks for a bound by one worker. A name begins with no hyphen, or is a single one.
+/// `bound` with three names asks for a bound by one worker, and `graph` for a graph. A name begins with no hyphen, or is a single one.
 pub fn three_names_ask()
     ensures { ThreeNamesAsk }
 {}
 
-/// `bound` with three names and `--workers` with a number from 1 to 64 asks for a bound by so many workers.
+/// `bound` or `graph` with three names and `--workers` with a number from 1 to 64 asks for a bound or a graph by so many
+/// workers.
 pub fn workers_are_asked()
     ensures { WorkersAreAsked }
 {}
@@ -21,7 +22,7 @@ pub fn one_name_asks()
     ensures { OneNameAsks }
 {}
 
-/// The first word of words without a fault is `bound` or `decode`: no option stands before it.
+/// The first word of words without a fault is `bound`, `graph` or `decode`: no option stands before it.
 pub fn commands_come_first()
     ensures { CommandsComeFirst }
 {}

@@ -2,8 +2,8 @@
 ghost use Rattle.std.specs.Prelude.{◌≡◌, ◌⊎◌, ◌↔◌, ◌≤◌, [], Some, true, codes, IfOk, IsErrOf, IsOk, option_and_then, option_map};
 ghost use Rattle.clap.specs.Words.{fault_of, first_of, found_of, one_of, rows_of, subcommand_of, subcommand_rows_of, takes};
 ghost use Rattle.bt_words.specs.App.{boundt_app};
-ghost use Rattle.bt_words.specs.Match.{HasNumber, HasText, IsBoundMatch, IsMatch, IsMatched};
-ghost use Rattle.bt_words.specs.Request.{HasWorkers, IsRefused, IsRequest, asked_by, asked_of, bound_asked, decode_asked, number_of, texts};
+ghost use Rattle.bt_words.specs.Match.{HasNumber, HasText, IsFilesMatch, IsMatch, IsMatched};
+ghost use Rattle.bt_words.specs.Request.{HasWorkers, IsRefused, IsRequest, asked_by, asked_of, bounds, decode_asked, files_asked, graphs, number_of, texts};
 
 use crate::command::boundt;
 use clap::ArgMatches;
@@ -15,6 +15,13 @@ use std::alloc::Global;
 pub enum Request<'a> {
     /// Bound the image under these costs and assertions, by so many workers, 1 to 64.
     Bound {
+        image: &'a str,
+        cycles: &'a str,
+        assertions: &'a str,
+        workers: u32,
+    },
+    /// Show the graph of the image under these costs and assertions, by so many workers, 1 to 64.
+    Graph {
         image: &'a str,
         cycles: &'a str,
         assertions: &'a str,
@@ -54,8 +61,8 @@ fn workers_of(found: &ArgMatches<'_>) -> u32
 
 /// What the matches of `bound` ask for.
 fn bound_of<'a>(found: &ArgMatches<'a>) -> Request<'a>
-    requires { IsBoundMatch (rows_of (found_of found.now)) }
-    ensures asked { bound_asked (rows_of (found_of found.now)) ≡ Some (asked_of result) }
+    requires { IsFilesMatch (rows_of (found_of found.now)) }
+    ensures asked { files_asked bounds (rows_of (found_of found.now)) ≡ Some (asked_of result) }
     ensures workers { HasWorkers (asked_of result) }
 {
     Request::Bound {
@@ -63,6 +70,24 @@ fn bound_of<'a>(found: &ArgMatches<'a>) -> Request<'a>
         cycles: text_of(found, "CYCLES"),
         assertions: text_of(found, "ASSERTIONS"),
         workers: workers_of(found),
+    }
+}
+
+/// What the matches of `graph` ask for.
+fn graph_of<'a>(found: &ArgMatches<'a>) -> Request<'a>
+    requires { IsFilesMatch (rows_of (found_of found.now)) }
+    ensures asked { files_asked graphs (rows_of (found_of found.now)) ≡ Some (asked_of result) }
+    ensures workers { HasWorkers (asked_of result) }
+{
+    let image = text_of(found, "IMAGE");
+    let cycles = text_of(found, "CYCLES");
+    let assertions = text_of(found, "ASSERTIONS");
+    let workers = workers_of(found);
+    Request::Graph {
+        image,
+        cycles,
+        assertions,
+        workers,
     }
 }
 
@@ -84,6 +109,7 @@ fn asked<'a>(name: &str, found: &ArgMatches<'a>) -> Request<'a>
 {
     match name {
         "bound" => bound_of(found),
+        "graph" => graph_of(found),
         _ => decode_of(found),
     }
 }
@@ -126,8 +152,8 @@ fn matches_of<'a>(alloc: Global, words: &'a [String]) -> Result<ArgMatches<'a>, 
 
 /// What the words of a call ask for. They are those after the program's name.
 ///
-/// They are `bound IMAGE CYCLES ASSERTIONS [--workers N]` or `decode IMAGE`. The option stands anywhere behind
-/// `bound`, at most once, as `--workers N` or as `--workers=N`. After `--` there are no options, so a name that
+/// They are `bound IMAGE CYCLES ASSERTIONS [--workers N]`, the same with `graph`, or `decode IMAGE`. The option stands
+/// anywhere behind `bound` or `graph`, at most once, as `--workers N` or as `--workers=N`. After `--` there are no options, so a name that
 /// begins with a hyphen, and is longer, stands there. Usage comes only for words that `clap` refuses for another
 /// cause than memory; Want for want of memory alone.
 pub fn request_of<'a>(alloc: Global, words: &'a [String]) -> Result<Request<'a>, NoRequest>

@@ -3,6 +3,7 @@ use Rattle.bt_words.specs.Request.{IsRequest, asked_of, texts}
 use Rattle.bt_words.specs.declared.request.Request.{Request}
 use Rattle.bt_command.specs.Answer.{refused, wanting, answered}
 use Rattle.bt_command.proofs.Exact.{bound_exact, decode_exact}
+use Rattle.bt_command.proofs.GraphExact.{graph_exact, graph_whole}
 use Rattle.bt_command.proofs.Wholes.{bound_whole, decode_whole}
 use Rattle.bt_command.proofs.running.run_alone.Goals as goal
 
@@ -10,6 +11,11 @@ pub returns-in-Ok-Bound-clause-answers : goal.returns-in-Ok-Bound-clause-answers
 returns-in-Ok-Bound-clause-answers g c =
     answered _ (subst (λ (r : Request). IsRequest (texts c.args.words.now) (asked_of r)) c.in-Ok-Bound.field-0-is c.in-Ok-Bound.ensures.ok)
     c.bound.ensures.says (bound_whole _ _ _ c.bound.ensures.says) (bound_exact _ _ _ c.bound.ensures.says)
+
+pub returns-in-Ok-Graph-clause-answers : goal.returns-in-Ok-Graph-clause-answers
+returns-in-Ok-Graph-clause-answers g c =
+    answered _ (subst (λ (r : Request). IsRequest (texts c.args.words.now) (asked_of r)) c.in-Ok-Graph.field-0-is c.in-Ok-Graph.ensures.ok)
+    c.graph.ensures.says (graph_whole _ _ _ c.graph.ensures.says) (graph_exact _ _ _ c.graph.ensures.says)
 
 pub returns-in-Ok-Decode-clause-answers : goal.returns-in-Ok-Decode-clause-answers
 returns-in-Ok-Decode-clause-answers g c =
@@ -25,6 +31,10 @@ returns-in-Err-Want-clause-answers g c = wanting
 pub returns-in-Ok-Bound-clause-asks : goal.returns-in-Ok-Bound-clause-asks
 returns-in-Ok-Bound-clause-asks g c =
     inr (_, (subst (λ (r : Request). IsRequest (texts c.args.words.now) (asked_of r)) c.in-Ok-Bound.field-0-is c.in-Ok-Bound.ensures.ok, c.bound.ensures.asks))
+
+pub returns-in-Ok-Graph-clause-asks : goal.returns-in-Ok-Graph-clause-asks
+returns-in-Ok-Graph-clause-asks g c =
+    inr (_, (subst (λ (r : Request). IsRequest (texts c.args.words.now) (asked_of r)) c.in-Ok-Graph.field-0-is c.in-Ok-Graph.ensures.ok, c.graph.ensures.asks))
 
 pub returns-in-Ok-Decode-clause-asks : goal.returns-in-Ok-Decode-clause-asks
 returns-in-Ok-Decode-clause-asks g c =
