@@ -5,6 +5,8 @@
 #[cfg(test)]
 mod board;
 #[cfg(test)]
+mod fields;
+#[cfg(test)]
 mod parts;
 #[cfg(test)]
 mod pools;
