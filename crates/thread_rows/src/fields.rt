@@ -1,6 +1,7 @@
 //! Workers who grow one graph by parts, and a board that is read meanwhile.
 ghost use Rattle.std.specs.Prelude.{◌≡◌};
 
+use crate::same::are_same;
 use core_rows::Ring;
 use edge_publish::Board;
 use flow_core::Core;
@@ -34,16 +35,6 @@ impl Name<u32, u8> for MiddleRing {
 
 /// A board of the keys that are due in the middle ring.
 type RingBoard = Board<u32, DueKeys<u8, MiddleRing>>;
-
-/// Whether two maps have the same keys with the same facts.
-fn are_same(alloc: Global, facts: &Facts<u32, u8>, others: &Facts<u32, u8>) -> Result<bool, Fail> {
-    let keys = facts.keys(alloc)?;
-    let mut same = keys.as_slice() == others.keys(alloc)?.as_slice();
-    for k in &keys {
-        same &= facts.get(*k).copied() == others.get(*k).copied();
-    }
-    Ok(same)
-}
 
 /// Whether the keys on a board are those of a map: each is one of them, and there are as many.
 fn are_keys(alloc: Global, board: &RingBoard, facts: &Facts<u32, u8>) -> Result<bool, Fail> {

@@ -10,3 +10,5 @@ mod fields;
 mod parts;
 #[cfg(test)]
 mod pools;
+#[cfg(test)]
+mod same;

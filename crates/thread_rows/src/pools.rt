@@ -4,10 +4,11 @@ ghost use Rattle.std.specs.Ordering.{nat_cmp};
 ghost use Rattle.flow_core.specs.Core.{IsGood};
 ghost use Rattle.core_rows.specs.Ring.{ring};
 
+use crate::same::are_same;
 use core_rows::Ring;
 use fact_pool::Pool;
 use flow_core::{Closed, Core, GrowRefusal};
-use flow_system::{Facts, Name};
+use flow_system::Name;
 use std::alloc::Global;
 use std::sync::Wait;
 use std::sync::atomic::{AtomicU64, Ordering};
@@ -35,16 +36,6 @@ fn long_ring() -> Ring
         last: 9999,
         second: 5000,
     }
-}
-
-/// Whether two maps have the same keys with the same facts.
-fn are_same(alloc: Global, facts: &Facts<u32, u8>, others: &Facts<u32, u8>) -> Result<bool, Fail> {
-    let keys = facts.keys(alloc)?;
-    let mut same = keys.as_slice() == others.keys(alloc)?.as_slice();
-    for k in &keys {
-        same &= facts.get(*k).copied() == others.get(*k).copied();
-    }
-    Ok(same)
 }
 
 /// A pool over a new core of the long ring.
