@@ -1,0 +1,2 @@
+pub mod WorkedScopes
+pub mod WorkedWalks
