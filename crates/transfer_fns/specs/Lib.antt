@@ -1,3 +1,4 @@
+pub mod Key
 pub mod Setting
 pub mod Numbers
 pub mod Laws

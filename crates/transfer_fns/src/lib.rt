@@ -2,6 +2,7 @@
 #![tactic(auto)]
 
 mod laws;
+mod parted;
 mod parts;
 mod system;
 mod using;
