@@ -100,8 +100,8 @@ fn part_of<S: Parted, N: Name<S::Key, S::Val>>(
 }
 
 impl<'a, S: Parted, N: Name<S::Key, S::Val>> Field<'a, S, N> {
-    /// A core's facts in parts, each at home, with the seat that has all the weight. Where memory is wanting the core is
-    /// dropped.
+    /// A core's facts in parts, each at home, with the seat that has all the weight. Where memory is wanting the core
+    /// is dropped.
     pub fn new(
         alloc: Global,
         core: Core<S>,

@@ -21,8 +21,8 @@ use std::sync::Wait;
 use std::thread::{Threads, join};
 use worker_pool::{Gate, NODE_LIMIT, settle};
 
-/// Workers `first` to `first + count - 1`, each in a thread of its own where one can be made, and each with a seat of its
-/// own, whose weight comes back.
+/// Workers `first` to `first + count - 1`, each in a thread of its own where one can be made, and each with a seat of
+/// its own, whose weight comes back.
 fn labour_all<R: Threads + Wait + Sync, S: Parted + Sync, N: Name<S::Key, S::Val>, G: Gate + Sync>(
     rt: &R,
     alloc: Global,
@@ -85,12 +85,12 @@ pub fn publish_starts<R: Wait, S: Parted, N: Name<S::Key, S::Val>>(
     Ok(())
 }
 
-/// The due graph of a system, grown by workers part by part, whose keys are read from the board meanwhile. Once it ended
-/// each key of the graph is on the board where the workers found it, and each key on the board is of the graph.
+/// The due graph of a system, grown by workers part by part, whose keys are read from the board meanwhile. Once it
+/// ended each key of the graph is on the board where the workers found it, and each key on the board is of the graph.
 ///
 /// The answer is that of `grow_alone`, for every number of workers, every gate and every order of their work: once the
-/// parts are gathered, `settle` asks nothing of them. Nodes comes exactly where the due graph has more counted keys than
-/// `NODE_LIMIT`.
+/// parts are gathered, `settle` asks nothing of them. Nodes comes exactly where the due graph has more counted keys
+/// than `NODE_LIMIT`.
 pub fn grow_on<R: Threads + Wait + Sync, S: Parted + Sync, N: Name<S::Key, S::Val>, G: Gate + Sync>(
     rt: &R,
     alloc: Global,
@@ -144,8 +144,8 @@ where
 
 /// The due graph of a system, grown by workers part by part.
 ///
-/// The answer is that of `grow_alone`, for every number of workers, every gate and every order of their work. Nodes comes
-/// exactly where the due graph has more counted keys than `NODE_LIMIT`.
+/// The answer is that of `grow_alone`, for every number of workers, every gate and every order of their work. Nodes
+/// comes exactly where the due graph has more counted keys than `NODE_LIMIT`.
 pub fn grow<R: Threads + Wait + Sync, S: Parted + Sync, G: Gate + Sync>(
     rt: &R,
     alloc: Global,

@@ -28,8 +28,8 @@ fn carry<R: Wait, S: Parted, N: Name<S::Key, S::Val>>(
     Ok(grown > 0)
 }
 
-/// Hands another part all that is noted for it: the facts that it is to be told, and, where its own facts are asked for,
-/// that they are read; and takes these facts, as they now are. It tells whether a fact grew in either part.
+/// Hands another part all that is noted for it: the facts that it is to be told, and, where its own facts are asked
+/// for, that they are read; and takes these facts, as they now are. It tells whether a fact grew in either part.
 pub fn hand_over<R: Wait, S: Parted, N: Name<S::Key, S::Val>>(
     rt: &R,
     alloc: Global,

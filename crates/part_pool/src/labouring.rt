@@ -187,9 +187,9 @@ fn go_round<R: Wait, S: Parted, N: Name<S::Key, S::Val>, G: Gate>(
     Ok(grew)
 }
 
-/// One worker: it visits the 64 parts in turn. Where a part is at home it takes the part and works its pending keys, puts
-/// each new key on the board, and hands pieces and copies to those of the other parts that it can take. It ends once a
-/// whole turn let no fact and no copy grow.
+/// One worker: it visits the 64 parts in turn. Where a part is at home it takes the part and works its pending keys,
+/// puts each new key on the board, and hands pieces and copies to those of the other parts that it can take. It ends
+/// once a whole turn let no fact and no copy grow.
 ///
 /// At every return its seat holds no part and has the weight that it came with. Nodes says that the due graph has more
 /// counted keys than the named limit. Want stands also for the end of 2^64 - 1 turns.

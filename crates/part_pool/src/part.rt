@@ -103,8 +103,8 @@ impl<S: Parted, N: Name<S::Key, S::Val>> Part<S, N> {
         self.core.facts()
     }
 
-    /// Takes its least own pending key out to be looked at, with copies of the facts that it reads; None exactly where none
-    /// is pending. Pending keys that aren't its own are passed over. Want takes nothing out.
+    /// Takes its least own pending key out to be looked at, with copies of the facts that it reads; None exactly where
+    /// none is pending. Pending keys that aren't its own are passed over. Want takes nothing out.
     pub fn take(&mut self, alloc: Global, system: &S, worker: u32) -> Result<Option<Claim<S>>, Want>
         requires named { S.rules system.now ≡ N.rules }
         ensures number { self.new.number ≡ self.old.number }

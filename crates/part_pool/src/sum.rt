@@ -49,11 +49,11 @@ fn add_part<S: Parted, N: Name<S::Key, S::Val>>(
     Ok(())
 }
 
-/// The sum of parts: a core with the least facts that contain the start pieces and those of each part, its copies too, all
-/// pending.
+/// The sum of parts: a core with the least facts that contain the start pieces and those of each part, its copies too,
+/// all pending.
 ///
-/// A part's copy of another part's fact may be greater than that fact, where it wasn't handed over; so no part's facts are
-/// left out. Nodes says that the due graph has more counted keys than the named limit.
+/// A part's copy of another part's fact may be greater than that fact, where it wasn't handed over; so no part's facts
+/// are left out. Nodes says that the due graph has more counted keys than the named limit.
 pub fn sum_of<S: Parted, N: Name<S::Key, S::Val>>(
     alloc: Global,
     system: &S,
@@ -76,8 +76,8 @@ pub fn sum_of<S: Parted, N: Name<S::Key, S::Val>>(
     Ok(core)
 }
 
-/// Puts the parts together again, once no worker shares them: a core with the start pieces and all that the parts have, all
-/// pending. A refusal drops the parts.
+/// Puts the parts together again, once no worker shares them: a core with the start pieces and all that the parts have,
+/// all pending. A refusal drops the parts.
 ///
 /// Nodes says that the due graph has more counted keys than the named limit.
 pub fn gather<S: Parted, N: Name<S::Key, S::Val>>(

@@ -59,8 +59,9 @@ pub fn ask_for_all<S: Parted>(
 
 /// Notes what a piece tells that is about to be joined to a part's facts.
 ///
-/// A fact that grows is told to the parts that read it, where its key is the part's own, and else to the key's part, where
-/// the part found it itself. An own key that is new is put on the board, and the facts that it reads are asked for.
+/// A fact that grows is told to the parts that read it, where its key is the part's own, and else to the key's part,
+/// where the part found it itself. An own key that is new is put on the board, and the facts that it reads are asked
+/// for.
 fn tell_piece<R: Wait, S: Parted, N: Name<S::Key, S::Val>>(
     rt: &R,
     alloc: Global,
