@@ -1,0 +1,28 @@
+//! Facts about the parts of contexts: each is the contract of a function that does nothing.
+ghost use Rattle.context_bounds.specs.Laws.{CalledAreEnough, ContextsPass, ContextsStand, MarksAreAll, OwnKeysAreKept};
+
+/// The keys of a subprogram's row rise, and are those of the subprogram that facts have.
+pub fn own_keys_are_kept()
+    ensures { OwnKeysAreKept }
+{}
+
+/// The least map over kept keys needs no more beside it than what is said of the subprograms that kept program points call.
+pub fn called_are_enough()
+    ensures { CalledAreEnough }
+{}
+
+/// Marks that begin at the entry of a context and follow its steps have all its program points: each is reached.
+pub fn marks_are_all()
+    ensures { MarksAreAll }
+{}
+
+/// An induction over the facts of a context: a test of keys that its entry passes, and that each of its program points hands on,
+/// holds of all its keys.
+pub fn contexts_pass()
+    ensures { ContextsPass }
+{}
+
+/// The facts of a context have the program points that their steps and calls name, and those of a step are of one subprogram.
+pub fn contexts_stand()
+    ensures { ContextsStand }
+{}

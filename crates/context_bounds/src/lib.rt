@@ -1,0 +1,25 @@
+//! One context: what its program points change and cost, and what bounds its loops.
+#![tactic(auto)]
+
+mod arguments;
+mod changing;
+mod choosing;
+mod entering;
+mod extras;
+mod laws;
+mod nodes;
+mod owning;
+mod reading;
+mod spending;
+mod states;
+
+pub use arguments::thresholds_with;
+pub use changing::change_at;
+pub use choosing::{by_of, passes_by};
+pub use entering::entered_with;
+pub use laws::{
+    called_are_enough, contexts_pass, contexts_stand, marks_are_all, own_keys_are_kept,
+};
+pub use nodes::costs_of;
+pub use owning::own_rows;
+pub use states::{changes_of, state_at};
