@@ -17,7 +17,7 @@ use Rattle.local_facts.specs.Restricted.{is_listed}
 use Rattle.transfer_rules.specs.Fact.{Piece}
 use Rattle.transfer_rules.specs.declared.fact.Fact.{Fact}
 
-equal_from_is_eq : (o : Ordering) → is_eq o ≡ true → o ≡ Equal
+pub equal_from_is_eq : (o : Ordering) → is_eq o ≡ true → o ≡ Equal
 equal_from_is_eq Less e = absurd (cc)
 equal_from_is_eq Equal e = refl
 equal_from_is_eq Greater e = absurd (cc)

@@ -5,3 +5,4 @@ pub mod Kept
 pub mod Marks
 pub mod OwnRows
 pub mod Passes
+pub mod Reached

@@ -1,5 +1,5 @@
 -- What rows of keys say.
-use Rattle.std.specs.Prelude.{◌≡◌, ◌==◌, ◌&&◌, ◌↔◌, ℕ, Bool, true, false, List, [], ◌∷◌, Contains, is_some}
+use Rattle.std.specs.Prelude.{◌≡◌, ◌==◌, ◌&&◌, ◌↔◌, ◌<◌, ℕ, Bool, true, false, List, [], ◌∷◌, Contains, is_some, length}
 use Rattle.std.specs.List.Sorted.{IsStrictlySortedBy}
 use Rattle.std.specs.Map.{keys_of}
 use Rattle.abs_state.specs.Key.{compare}
@@ -7,10 +7,13 @@ use Rattle.abs_state.specs.declared.key.Key.{Key}
 use Rattle.abs_state.specs.declared.key.Key.TheVariants as key
 use Rattle.abs_state.specs.declared.key.Next.TheVariants.{Into}
 use Rattle.abs_state.specs.declared.key.Place.{Place}
+use Rattle.bt_base.specs.Graph.{is_edge}
 use Rattle.context_bounds.specs.Own.{own_keys}
 use Rattle.context_facts.specs.Context.{AreLawful, IsAmong, IsKept, is_local, with_others}
+use Rattle.context_outcomes.specs.Inside.{Shape}
 use Rattle.flow_system.specs.Facts.{KeysRise, fact_at}
 use Rattle.flow_system.specs.State.{IsClosed}
+use Rattle.graph_laws.specs.Nest.{IsReached}
 use Rattle.local_facts.specs.Restricted.{IsLeastLocal, IsRestriction, is_listed}
 use Rattle.transfer_rules.specs.Closed.{HasState}
 use Rattle.transfer_rules.specs.Fact.{Piece}
@@ -85,3 +88,12 @@ ContextsStand =
     → IsRestriction compare (rules_of more g m) ((key.Node (entry_of sub), fact.State (entered_with args)) ∷ []) keep fixed
     → IsLeastLocal compare (rules_of more g m) ((key.Node (entry_of sub), fact.State (entered_with args)) ∷ []) keep fixed s
     → (k : Key) → is_some (s k) ≡ true → stands s k ≡ true
+
+-- each program point of a context's graph is reached from its entry
+abbrev pub ContextsAreReached : Type 0
+ContextsAreReached =
+    (t more : List ℕ) (f g : Family) (m : Program) (x : Facts) (sub : ℕ) (args : List Value) (keep : List Key) (fixed : List Piece) (s : Facts)
+    → AreLawful t more f g m → IsClosed (rules_of t f m) x → HasState x (entry_of sub) (entered_with args) → IsKept x sub keep fixed
+    → IsRestriction compare (rules_of more g m) ((key.Node (entry_of sub), fact.State (entered_with args)) ∷ []) keep fixed
+    → IsLeastLocal compare (rules_of more g m) ((key.Node (entry_of sub), fact.State (entered_with args)) ∷ []) keep fixed s
+    → (shape : Shape s sub) (n : ℕ) → n < length shape.nodes → IsReached (is_edge shape.graph) shape.entry n

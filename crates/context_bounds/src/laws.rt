@@ -1,5 +1,5 @@
 //! Facts about the parts of contexts: each is the contract of a function that does nothing.
-ghost use Rattle.context_bounds.specs.Laws.{CalledAreEnough, ContextsPass, ContextsStand, MarksAreAll, OwnKeysAreKept};
+ghost use Rattle.context_bounds.specs.Laws.{CalledAreEnough, ContextsAreReached, ContextsPass, ContextsStand, MarksAreAll, OwnKeysAreKept};
 
 /// The keys of a subprogram's row rise, and are those of the subprogram that facts have.
 pub fn own_keys_are_kept()
@@ -25,4 +25,9 @@ pub fn contexts_pass()
 /// The facts of a context have the program points that their steps and calls name, and those of a step are of one subprogram.
 pub fn contexts_stand()
     ensures { ContextsStand }
+{}
+
+/// Each program point of a context's graph is reached from its entry.
+pub fn contexts_are_reached()
+    ensures { ContextsAreReached }
 {}

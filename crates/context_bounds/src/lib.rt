@@ -18,7 +18,8 @@ pub use changing::change_at;
 pub use choosing::{by_of, passes_by};
 pub use entering::entered_with;
 pub use laws::{
-    called_are_enough, contexts_pass, contexts_stand, marks_are_all, own_keys_are_kept,
+    called_are_enough, contexts_are_reached, contexts_pass, contexts_stand, marks_are_all,
+    own_keys_are_kept,
 };
 pub use nodes::costs_of;
 pub use owning::own_rows;
