@@ -6,3 +6,4 @@ pub mod Marks
 pub mod OwnRows
 pub mod Passes
 pub mod Reached
+pub mod Shapes

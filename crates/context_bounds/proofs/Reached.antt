@@ -176,7 +176,7 @@ any_default [] n d e low = absurd (omega (arith, low))
 any_default (p ∷ nodes) zero d e low = refl
 any_default (p ∷ nodes) (suc n) d e low = any_default nodes n d e (omega (arith, low))
 
-numbered : (nodes : List Place) (p : Place) (n : ℕ) → n < length nodes → get_or nodes n p ≡ p → IsNumber nodes p n
+pub numbered : (nodes : List Place) (p : Place) (n : ℕ) → n < length nodes → get_or nodes n p ≡ p → IsNumber nodes p n
 numbered nodes p n low at = record { within = low; is = λ d. any_default nodes n d p low ∙ at }
 
 module _ (t more : List ℕ) (f g : Family) (m : Program) (x : Facts) (sub : ℕ) (args : List Value) (keep : List Key) (fixed : List Piece) (s : Facts)

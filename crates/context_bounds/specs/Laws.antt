@@ -7,13 +7,15 @@ use Rattle.abs_state.specs.declared.key.Key.{Key}
 use Rattle.abs_state.specs.declared.key.Key.TheVariants as key
 use Rattle.abs_state.specs.declared.key.Next.TheVariants.{Into}
 use Rattle.abs_state.specs.declared.key.Place.{Place}
-use Rattle.bt_base.specs.Graph.{is_edge}
+use Rattle.bt_base.specs.Graph.{IsGraph, is_edge}
 use Rattle.context_bounds.specs.Own.{own_keys}
 use Rattle.context_facts.specs.Context.{AreLawful, IsAmong, IsKept, is_local, with_others}
 use Rattle.context_outcomes.specs.Inside.{Shape}
 use Rattle.flow_system.specs.Facts.{KeysRise, fact_at}
 use Rattle.flow_system.specs.State.{IsClosed}
 use Rattle.graph_laws.specs.Nest.{IsReached}
+use Rattle.graph_view.specs.Numbers.{IsStepGraph, place_cmp}
+use Rattle.graph_view.specs.View.{by_kind, nodes_of, steps_of}
 use Rattle.local_facts.specs.Restricted.{IsLeastLocal, IsRestriction, is_listed}
 use Rattle.transfer_rules.specs.Closed.{HasState}
 use Rattle.transfer_rules.specs.Fact.{Piece}
@@ -97,3 +99,20 @@ ContextsAreReached =
     → IsRestriction compare (rules_of more g m) ((key.Node (entry_of sub), fact.State (entered_with args)) ∷ []) keep fixed
     → IsLeastLocal compare (rules_of more g m) ((key.Node (entry_of sub), fact.State (entered_with args)) ∷ []) keep fixed s
     → (shape : Shape s sub) (n : ℕ) → n < length shape.nodes → IsReached (is_edge shape.graph) shape.entry n
+
+-- all facts are a subprogram's program points, steps and calls
+abbrev pub IsAllLocal : List Piece → ℕ → Type 0
+IsAllLocal pieces sub = (k : Key) → is_some (fact_at compare pieces k) ≡ true → is_local sub k ≡ true
+
+-- the facts as a graph, by the program points of a view of their keys and by its graph
+pub record IsShapeOf (pieces : List Piece) (sub : ℕ) (graph : List (List ℕ)) : Type 0 where
+  pub shape : Shape (fact_at compare pieces) sub
+  pub nodes : shape.nodes ≡ nodes_of (by_kind (keys_of pieces)) sub
+  pub edges : shape.graph ≡ graph
+
+-- what a view of the keys of such facts shows is their graph, where they have the entry
+abbrev pub ViewsAreShapes : Type 0
+ViewsAreShapes =
+    (pieces : List Piece) (sub : ℕ) → IsAllLocal pieces sub → IsStrictlySortedBy place_cmp (nodes_of (by_kind (keys_of pieces)) sub)
+    → is_some (fact_at compare pieces (key.Node (entry_of sub))) ≡ true → (graph : List (List ℕ)) → IsGraph graph
+    → IsStepGraph (nodes_of (by_kind (keys_of pieces)) sub) (steps_of (by_kind (keys_of pieces)) sub) graph → IsShapeOf pieces sub graph

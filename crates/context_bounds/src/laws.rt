@@ -1,5 +1,5 @@
 //! Facts about the parts of contexts: each is the contract of a function that does nothing.
-ghost use Rattle.context_bounds.specs.Laws.{CalledAreEnough, ContextsAreReached, ContextsPass, ContextsStand, MarksAreAll, OwnKeysAreKept};
+ghost use Rattle.context_bounds.specs.Laws.{CalledAreEnough, ContextsAreReached, ContextsPass, ContextsStand, MarksAreAll, OwnKeysAreKept, ViewsAreShapes};
 
 /// The keys of a subprogram's row rise, and are those of the subprogram that facts have.
 pub fn own_keys_are_kept()
@@ -30,4 +30,9 @@ pub fn contexts_stand()
 /// Each program point of a context's graph is reached from its entry.
 pub fn contexts_are_reached()
     ensures { ContextsAreReached }
+{}
+
+/// What a view of the keys of a context's facts shows is their graph.
+pub fn views_are_shapes()
+    ensures { ViewsAreShapes }
 {}
