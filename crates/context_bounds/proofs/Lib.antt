@@ -7,3 +7,4 @@ pub mod OwnRows
 pub mod Passes
 pub mod Reached
 pub mod Shapes
+pub mod Viewed

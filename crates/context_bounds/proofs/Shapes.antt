@@ -27,7 +27,7 @@ use Rattle.transfer_rules.specs.Fact.{Piece}
 use Rattle.transfer_rules.specs.Give.{entry_of}
 use Rattle.context_bounds.proofs.Reached.{numbered}
 
-keys_order : OrdersKeys compare
+pub keys_order : OrdersKeys compare
 keys_order = record { total = keys_are_ordered.total; exact = keys_are_ordered.exact }
 
 module _ (pieces : List Piece) (sub : ℕ) (local : IsAllLocal pieces sub) where

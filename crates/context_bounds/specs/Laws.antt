@@ -15,7 +15,7 @@ use Rattle.flow_system.specs.Facts.{KeysRise, fact_at}
 use Rattle.flow_system.specs.State.{IsClosed}
 use Rattle.graph_laws.specs.Nest.{IsReached}
 use Rattle.graph_view.specs.Numbers.{IsStepGraph, place_cmp}
-use Rattle.graph_view.specs.View.{by_kind, nodes_of, steps_of}
+use Rattle.graph_view.specs.View.{AreViewed, by_kind, nodes_of, steps_of}
 use Rattle.local_facts.specs.Restricted.{IsLeastLocal, IsRestriction, is_listed}
 use Rattle.transfer_rules.specs.Closed.{HasState}
 use Rattle.transfer_rules.specs.Fact.{Piece}
@@ -116,3 +116,10 @@ ViewsAreShapes =
     (pieces : List Piece) (sub : ℕ) → IsAllLocal pieces sub → IsStrictlySortedBy place_cmp (nodes_of (by_kind (keys_of pieces)) sub)
     → is_some (fact_at compare pieces (key.Node (entry_of sub))) ≡ true → (graph : List (List ℕ)) → IsGraph graph
     → IsStepGraph (nodes_of (by_kind (keys_of pieces)) sub) (steps_of (by_kind (keys_of pieces)) sub) graph → IsShapeOf pieces sub graph
+
+-- a view can be made of facts that have keys of those of which one can be made, and the program points that they name
+abbrev pub ContextsAreViewed : Type 0
+ContextsAreViewed =
+    (whole pieces : List Piece) → AreViewed (keys_of whole) → KeysRise compare pieces
+    → ((k : Key) → is_some (fact_at compare pieces k) ≡ true → is_some (fact_at compare whole k) ≡ true)
+    → ((k : Key) → is_some (fact_at compare pieces k) ≡ true → stands (fact_at compare pieces) k ≡ true) → AreViewed (keys_of pieces)

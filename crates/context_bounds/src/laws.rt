@@ -1,5 +1,5 @@
 //! Facts about the parts of contexts: each is the contract of a function that does nothing.
-ghost use Rattle.context_bounds.specs.Laws.{CalledAreEnough, ContextsAreReached, ContextsPass, ContextsStand, MarksAreAll, OwnKeysAreKept, ViewsAreShapes};
+ghost use Rattle.context_bounds.specs.Laws.{CalledAreEnough, ContextsAreReached, ContextsAreViewed, ContextsPass, ContextsStand, MarksAreAll, OwnKeysAreKept, ViewsAreShapes};
 
 /// The keys of a subprogram's row rise, and are those of the subprogram that facts have.
 pub fn own_keys_are_kept()
@@ -35,4 +35,9 @@ pub fn contexts_are_reached()
 /// What a view of the keys of a context's facts shows is their graph.
 pub fn views_are_shapes()
     ensures { ViewsAreShapes }
+{}
+
+/// A view can be made of the keys of a context's facts, where one can be made of those of the whole program.
+pub fn contexts_are_viewed()
+    ensures { ContextsAreViewed }
 {}

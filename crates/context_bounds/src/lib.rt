@@ -18,8 +18,8 @@ pub use changing::change_at;
 pub use choosing::{by_of, passes_by};
 pub use entering::entered_with;
 pub use laws::{
-    called_are_enough, contexts_are_reached, contexts_pass, contexts_stand, marks_are_all,
-    own_keys_are_kept, views_are_shapes,
+    called_are_enough, contexts_are_reached, contexts_are_viewed, contexts_pass, contexts_stand,
+    marks_are_all, own_keys_are_kept, views_are_shapes,
 };
 pub use nodes::costs_of;
 pub use owning::own_rows;
