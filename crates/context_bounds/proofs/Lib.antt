@@ -8,3 +8,4 @@ pub mod Passes
 pub mod Reached
 pub mod Shapes
 pub mod Viewed
+pub mod Copied

@@ -5,3 +5,4 @@ pub mod States
 pub mod Own
 pub mod Low
 pub mod Laws
+pub mod Copies

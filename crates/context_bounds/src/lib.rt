@@ -6,6 +6,7 @@ mod changing;
 mod choosing;
 mod entering;
 mod extras;
+mod fixing;
 mod laws;
 mod nodes;
 mod owning;
@@ -17,6 +18,7 @@ pub use arguments::thresholds_with;
 pub use changing::change_at;
 pub use choosing::{by_of, passes_by};
 pub use entering::entered_with;
+pub use fixing::summaries_of;
 pub use laws::{
     called_are_enough, contexts_are_reached, contexts_are_viewed, contexts_pass, contexts_stand,
     marks_are_all, own_keys_are_kept, views_are_shapes,
