@@ -9,3 +9,4 @@ pub mod Reached
 pub mod Shapes
 pub mod Viewed
 pub mod Copied
+pub mod Known

@@ -6,3 +6,4 @@ pub mod Own
 pub mod Low
 pub mod Laws
 pub mod Copies
+pub mod Known

@@ -1,4 +1,5 @@
 //! Facts about the parts of contexts: each is the contract of a function that does nothing.
+ghost use Rattle.context_bounds.specs.Known.{FactsAreKnown};
 ghost use Rattle.context_bounds.specs.Laws.{CalledAreEnough, ContextsAreReached, ContextsAreViewed, ContextsPass, ContextsStand, MarksAreAll, OwnKeysAreKept, ViewsAreShapes};
 
 /// The keys of a subprogram's row rise, and are those of the subprogram that facts have.
@@ -40,4 +41,10 @@ pub fn views_are_shapes()
 /// A view can be made of the keys of a context's facts, where one can be made of those of the whole program.
 pub fn contexts_are_viewed()
     ensures { ContextsAreViewed }
+{}
+
+/// The least map over the keys of a subprogram, with what is said of the subprograms that it calls, has the facts of the
+/// context.
+pub fn facts_are_known()
+    ensures { FactsAreKnown }
 {}
