@@ -12,15 +12,14 @@ use Rattle.value_lattice.specs.Ends.{high_end, low_end}
 use Rattle.value_lattice.specs.Order.{number_at}
 use Rattle.value_lattice.specs.declared.value.Value.{Value}
 
-module _ (v : Value) (k low : ℤ) (a : Bool) (is : low ≡ number_at (low_end v)) (tested : a ≡ fits (low +ℤ k)) where
+module _ (v : Value) (k low : ℤ) (a : Bool) (is : low ≡ number_at (low_end v) +ℤ k) (tested : a ≡ fits low) where
   first : (b : Bool) → a ≡ b → fits (number_at (low_end v) +ℤ k) ≡ b
-  first b same = sym (ap (λ (i : ℤ). fits (i +ℤ k)) is) ∙ (sym tested ∙ same)
+  first b same = sym (ap fits is) ∙ (sym tested ∙ same)
 
   -- where the least fits the greatest decides
-  pub high_decides : (high : ℤ) (b : Bool) → a ≡ true → high ≡ number_at (high_end v) → b ≡ fits (high +ℤ k) → b ≡ ends_fit v k
+  pub high_decides : (high : ℤ) (b : Bool) → a ≡ true → high ≡ number_at (high_end v) +ℤ k → b ≡ fits high → b ≡ ends_fit v k
   high_decides high b passing at also =
-      also
-      ∙ (ap (λ (i : ℤ). fits (i +ℤ k)) at ∙ sym (ap (λ (t : Bool). t && fits (number_at (high_end v) +ℤ k)) (first true passing)))
+      also ∙ (ap fits at ∙ sym (ap (λ (t : Bool). t && fits (number_at (high_end v) +ℤ k)) (first true passing)))
 
   -- else nothing more is asked
   pub low_decides : a ≡ false → a ≡ ends_fit v k

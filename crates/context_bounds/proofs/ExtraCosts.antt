@@ -1,5 +1,5 @@
 -- The costs of edges as a list are those of the edges.
-use Rattle.std.proofs.Common.{◌≡◌, ◌==◌, ◌&&◌, ◌||◌, ℕ, zero, suc, ◌+◌, ◌<◌, Bool, true, false, List, [], ◌∷◌, ◌++◌, length, get_or, refl, sym, ap, ◌∙◌, arith, zero-add, inl, inr, if◌then◌else◌, Result, Ok, Err, IfOk, Vec, Global}
+use Rattle.std.proofs.Common.{◌≡◌, ◌==◌, ◌&&◌, ◌||◌, ℕ, zero, suc, ◌+◌, ◌<◌, Bool, true, false, List, [], ◌∷◌, ◌++◌, length, get_or, refl, sym, ap, subst, ◌∙◌, arith, zero-add, inl, inr, if◌then◌else◌, Result, Ok, Err, IfOk, Vec, Global}
 use Rattle.std.specs.Prelude.{slice_index_or}
 use Rattle.std.specs.List.Sorted.{IsStrictlyIncreasing}
 use Rattle.std.proofs.lemmas.Bool.{cases_Bool, eq-eqb, eqb-true, false≢true}
@@ -37,7 +37,10 @@ not_in m (k ∷ row) rises =
         let one : m < k = rest_is_above m (k ∷ l ∷ row) k rises (0, omega arith, refl) in
         let two : k < l = rest_is_above k (l ∷ row) l (rising_rest m (k ∷ l ∷ row) rises) (0, omega arith, refl) in
         omega (arith, one, two)
-    skipped m k (l ∷ row) rises (suc j) within = rising_rest k (l ∷ row) (rising_rest m (k ∷ l ∷ row) rises) j (omega (arith, within))
+    skipped m k (l ∷ row) rises (suc j) within =
+        let same : suc j + 1 ≡ suc (j + 1) = omega arith in
+        subst (λ (i : ℕ). get_or (l ∷ row) j 0 < get_or (m ∷ l ∷ row) i 0) (sym same)
+        (rising_rest k (l ∷ row) (rising_rest m (k ∷ l ∷ row) rises) j (omega (arith, within)))
 
 -- the edges of a node say what each costs
 own_row : (c : ℕ → ℕ → ℕ) (n : ℕ) (row : List ℕ) → IsStrictlyIncreasing row → (m : ℕ) → extra_of (extras_of_row c n row) n m ≡ (if has row m then c n m else 0)

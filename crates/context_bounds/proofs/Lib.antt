@@ -2,6 +2,7 @@ pub mod Changes
 pub mod ExtraCosts
 pub mod Fixed
 pub mod Kept
+pub mod Loops
 pub mod Marks
 pub mod OwnRows
 pub mod Passes

@@ -13,7 +13,7 @@ use Rattle.bt_base.proofs.Rows.{rising_apart}
 use Rattle.context_facts.specs.Context.{is_local}
 use Rattle.context_bounds.specs.Own.{own_keys, own_rows, owner_of, rows_of}
 
-is_owner : Option ℕ → ℕ → Bool
+abbrev is_owner : Option ℕ → ℕ → Bool
 is_owner None sub = false
 is_owner (Some owner) sub = owner == sub
 

@@ -76,7 +76,7 @@ module _ (t more : List ℕ) (f g : Family) (m : Program) (x : Facts) (sub : ℕ
 
     only_start : (k : Key) (v : Fact) → Contains {X = Piece} ((key.Node (entry_of sub), fact.State (entered_with args)) ∷ []) (k, v) → test k ≡ true
     only_start k v has = subst (λ (piece : Piece). test piece.0 ≡ true) (first has) hands.entry where
-      first : Contains {X = Piece} ((key.Node (entry_of sub), fact.State (entered_with args)) ∷ []) (k, v) → (key.Node (entry_of sub), fact.State (entered_with args)) ≡ (k, v)
+      first : Contains {X = Piece} ((key.Node (entry_of sub), fact.State (entered_with args)) ∷ []) (k, v) → ◌≡◌ {A = Piece} (key.Node (entry_of sub), fact.State (entered_with args)) (k, v)
       first (zero, below, is) = is
       first (suc i, below, is) = absurd (omega (arith, below))
 

@@ -1,5 +1,5 @@
 //! What program points change in cells.
-ghost use Rattle.std.specs.Prelude.{◌≡◌, ℕ, ◌<◌, ◌≤◌, ◌≤ℤ◌, List, pos, negsuc, true, IfSome};
+ghost use Rattle.std.specs.Prelude.{◌≡◌, ℕ, ◌<◌, ◌≤◌, ◌≤ℤ◌, ◌+ℤ◌, List, pos, negsuc, true, IfSome};
 ghost use Rattle.abs_state.specs.Key.{compare};
 ghost use Rattle.context_bounds.specs.Low.{IsLow};
 ghost use Rattle.context_bounds.specs.Setting.{setting_of};
@@ -81,13 +81,21 @@ fn number_at(place: u32) -> i64
     }
 }
 
+/// The number with sign at a place, and one added to it.
+fn moved(place: u32, k: i64) -> i64
+    requires { fits k ≡ true }
+    ensures { result ≡ number_at place +ℤ k }
+{
+    number_at(place) + k
+}
+
 /// Whether both ends of a value, read with sign, are numbers of 32 bits once a number is added.
 fn ends_fit(value: &Value, k: i64) -> bool
     requires { fits k ≡ true }
     ensures { result ≡ ends_fit value.now k }
 {
     let (low, high) = value.ends();
-    fits(number_at(low) + k) && fits(number_at(high) + k)
+    fits(moved(low, k)) && fits(moved(high, k))
 }
 
 /// That a number is added to a cell, where it and the cell's ends allow it.
