@@ -11,3 +11,4 @@ pub mod Shapes
 pub mod Viewed
 pub mod Copied
 pub mod Known
+pub mod Heads

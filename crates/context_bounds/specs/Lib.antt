@@ -7,3 +7,4 @@ pub mod Low
 pub mod Laws
 pub mod Copies
 pub mod Known
+pub mod Heads

@@ -1,4 +1,5 @@
 //! Facts about the parts of contexts: each is the contract of a function that does nothing.
+ghost use Rattle.context_bounds.specs.Heads.{HeadsAreOutcomes};
 ghost use Rattle.context_bounds.specs.Known.{FactsAreKnown};
 ghost use Rattle.context_bounds.specs.Laws.{CalledAreEnough, ContextsAreReached, ContextsAreViewed, ContextsPass, ContextsStand, MarksAreAll, OwnKeysAreKept, ViewsAreShapes};
 
@@ -47,4 +48,9 @@ pub fn contexts_are_viewed()
 /// context.
 pub fn facts_are_known()
     ensures { FactsAreKnown }
+{}
+
+/// The loops of a context with what bounds them, by the parts from which they are worked out.
+pub fn heads_are_outcomes()
+    ensures { HeadsAreOutcomes }
 {}
