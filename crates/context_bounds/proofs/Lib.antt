@@ -12,3 +12,4 @@ pub mod Viewed
 pub mod Copied
 pub mod Known
 pub mod Heads
+pub mod Costs

@@ -8,3 +8,4 @@ pub mod Laws
 pub mod Copies
 pub mod Known
 pub mod Heads
+pub mod Costs

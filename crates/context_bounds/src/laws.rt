@@ -1,4 +1,5 @@
 //! Facts about the parts of contexts: each is the contract of a function that does nothing.
+ghost use Rattle.context_bounds.specs.Costs.{ListsAreCosts};
 ghost use Rattle.context_bounds.specs.Heads.{HeadsAreOutcomes};
 ghost use Rattle.context_bounds.specs.Known.{FactsAreKnown};
 ghost use Rattle.context_bounds.specs.Laws.{CalledAreEnough, ContextsAreReached, ContextsAreViewed, ContextsPass, ContextsStand, MarksAreAll, OwnKeysAreKept, ViewsAreShapes};
@@ -53,4 +54,9 @@ pub fn facts_are_known()
 /// The loops of a context with what bounds them, by the parts from which they are worked out.
 pub fn heads_are_outcomes()
     ensures { HeadsAreOutcomes }
+{}
+
+/// The costs of a context as lists are those of its walks.
+pub fn lists_are_costs()
+    ensures { ListsAreCosts }
 {}
