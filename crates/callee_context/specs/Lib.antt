@@ -1,3 +1,4 @@
 pub mod Answered
 pub mod Plainness
 pub mod Worklist
+pub mod Known
