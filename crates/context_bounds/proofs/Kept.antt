@@ -37,28 +37,28 @@ none_of false = refl
 -- a key is listed among those that pass a test exactly where it passes and has a fact
 pub kept_where : (p : Key → Bool) (pieces : List Piece) (k : Key) → is_listed compare (filter p (keys_of pieces)) k ≡ (p k && is_some (fact_at compare pieces k))
 kept_where p [] k = none_of (p k)
-kept_where p (piece ∷ rest) k = by (cases_Bool (is_eq (compare k piece.0))) (cases_Bool (p piece.0))
+kept_where p (piece ∷ rest) k = by (kept_where p rest k) (cases_Bool (is_eq (compare k piece.0))) (cases_Bool (p piece.0))
   where
-    by : (is_eq (compare k piece.0) ≡ true) ⊎ (is_eq (compare k piece.0) ≡ false) → (p piece.0 ≡ true) ⊎ (p piece.0 ≡ false)
+    by : (is_listed compare (filter p (keys_of rest)) k ≡ (p k && is_some (fact_at compare rest k))) → (is_eq (compare k piece.0) ≡ true) ⊎ (is_eq (compare k piece.0) ≡ false) → (p piece.0 ≡ true) ⊎ (p piece.0 ≡ false)
         → is_listed compare (cond (p piece.0) (piece.0 ∷ filter p (keys_of rest)) filter p (keys_of rest)) k ≡ (p k && is_some (cond (is_eq (compare k piece.0)) (Some piece.1) (fact_at compare rest k)))
-    by (inl same) (inl passing) =
+    by below (inl same) (inl passing) =
         let e : k ≡ piece.0 = keys_are_ordered.exact k piece.0 (equal_from_is_eq (compare k piece.0) same) in
         ap (λ (b : Bool). is_listed compare (cond b (piece.0 ∷ filter p (keys_of rest)) filter p (keys_of rest)) k) passing
         ∙ (ap (λ (b : Bool). b || is_listed compare filter p (keys_of rest) k) (either_way piece.0 k ∙ same)
         ∙ sym (ap (λ (b : Bool). p k && is_some (cond b (Some piece.1) (fact_at compare rest k))) same ∙ ap (λ (b : Bool). b && true) (ap p e ∙ passing)))
-    by (inl same) (inr failing) =
+    by below (inl same) (inr failing) =
         let e : k ≡ piece.0 = keys_are_ordered.exact k piece.0 (equal_from_is_eq (compare k piece.0) same) in
         ap (λ (b : Bool). is_listed compare (cond b (piece.0 ∷ filter p (keys_of rest)) filter p (keys_of rest)) k) failing
-        ∙ (kept_where p rest k
+        ∙ (below
         ∙ (ap (λ (b : Bool). b && is_some (fact_at compare rest k)) (ap p e ∙ failing)
         ∙ sym (ap (λ (b : Bool). b && is_some (cond (is_eq (compare k piece.0)) (Some piece.1) (fact_at compare rest k))) (ap p e ∙ failing))))
-    by (inr apart) (inl passing) =
+    by below (inr apart) (inl passing) =
         ap (λ (b : Bool). is_listed compare (cond b (piece.0 ∷ filter p (keys_of rest)) filter p (keys_of rest)) k) passing
         ∙ (ap (λ (b : Bool). b || is_listed compare filter p (keys_of rest) k) (either_way piece.0 k ∙ apart)
-        ∙ (kept_where p rest k ∙ sym (ap (λ (b : Bool). p k && is_some (cond b (Some piece.1) (fact_at compare rest k))) apart)))
-    by (inr apart) (inr failing) =
+        ∙ (below ∙ sym (ap (λ (b : Bool). p k && is_some (cond b (Some piece.1) (fact_at compare rest k))) apart)))
+    by below (inr apart) (inr failing) =
         ap (λ (b : Bool). is_listed compare (cond b (piece.0 ∷ filter p (keys_of rest)) filter p (keys_of rest)) k) failing
-        ∙ (kept_where p rest k ∙ sym (ap (λ (b : Bool). p k && is_some (cond b (Some piece.1) (fact_at compare rest k))) apart))
+        ∙ (below ∙ sym (ap (λ (b : Bool). p k && is_some (cond b (Some piece.1) (fact_at compare rest k))) apart))
 
 both_of : (b c : Bool) → ((b && c) ≡ true) ↔ ((b ≡ true) × (c ≡ true))
 both_of true c = (λ h. (refl, h), λ h. h.1)

@@ -37,37 +37,37 @@ use Rattle.value_lattice.specs.declared.value.Value.{Value}
 abbrev summaries : List Piece → List Piece
 summaries pieces = filter (λ (piece : Piece). is_summary piece.0) pieces
 
-none_if : (b : Bool) → None ≡ (if b then None else None)
+none_if : (b : Bool) → ◌≡◌ {A = Option Fact} None (if b then None else None)
 none_if true = refl
 none_if false = refl
 
 summaries_at : (pieces : List Piece) (k : Key) → fact_at compare (summaries pieces) k ≡ (if is_summary k then fact_at compare pieces k else None)
 summaries_at [] k = none_if (is_summary k)
-summaries_at (piece ∷ rest) k = by (cases_Bool (is_eq (compare k piece.0))) (cases_Bool (is_summary piece.0))
+summaries_at (piece ∷ rest) k = by (summaries_at rest k) (cases_Bool (is_eq (compare k piece.0))) (cases_Bool (is_summary piece.0))
   where
-    by : (is_eq (compare k piece.0) ≡ true) ⊎ (is_eq (compare k piece.0) ≡ false) → (is_summary piece.0 ≡ true) ⊎ (is_summary piece.0 ≡ false)
+    by : (fact_at compare (summaries rest) k ≡ (if is_summary k then fact_at compare rest k else None)) → (is_eq (compare k piece.0) ≡ true) ⊎ (is_eq (compare k piece.0) ≡ false) → (is_summary piece.0 ≡ true) ⊎ (is_summary piece.0 ≡ false)
         → fact_at compare (cond (is_summary piece.0) (piece ∷ summaries rest) (summaries rest)) k
         ≡ (if is_summary k then cond (is_eq (compare k piece.0)) (Some piece.1) (fact_at compare rest k) else None)
-    by (inl same) (inl kept) =
+    by below (inl same) (inl kept) =
         let e : is_summary k ≡ true = ap is_summary (same_key compare keys_order k piece.0 same) ∙ kept in
         ap (λ (b : Bool). fact_at compare (cond b (piece ∷ summaries rest) (summaries rest)) k) kept
         ∙ (ap (λ (b : Bool). cond b (Some piece.1) (fact_at compare (summaries rest) k)) same
         ∙ sym (ap (λ (b : Bool). if b then cond (is_eq (compare k piece.0)) (Some piece.1) (fact_at compare rest k) else None) e
         ∙ ap (λ (b : Bool). cond b (Some piece.1) (fact_at compare rest k)) same))
-    by (inl same) (inr left) =
+    by below (inl same) (inr left) =
         let e : is_summary k ≡ false = ap is_summary (same_key compare keys_order k piece.0 same) ∙ left in
         ap (λ (b : Bool). fact_at compare (cond b (piece ∷ summaries rest) (summaries rest)) k) left
-        ∙ (summaries_at rest k
+        ∙ (below
         ∙ (ap (λ (b : Bool). if b then fact_at compare rest k else None) e
         ∙ sym (ap (λ (b : Bool). if b then cond (is_eq (compare k piece.0)) (Some piece.1) (fact_at compare rest k) else None) e)))
-    by (inr apart) (inl kept) =
+    by below (inr apart) (inl kept) =
         ap (λ (b : Bool). fact_at compare (cond b (piece ∷ summaries rest) (summaries rest)) k) kept
         ∙ (ap (λ (b : Bool). cond b (Some piece.1) (fact_at compare (summaries rest) k)) apart
-        ∙ (summaries_at rest k
+        ∙ (below
         ∙ sym (ap (λ (b : Bool). if is_summary k then cond b (Some piece.1) (fact_at compare rest k) else None) apart)))
-    by (inr apart) (inr left) =
+    by below (inr apart) (inr left) =
         ap (λ (b : Bool). fact_at compare (cond b (piece ∷ summaries rest) (summaries rest)) k) left
-        ∙ (summaries_at rest k
+        ∙ (below
         ∙ sym (ap (λ (b : Bool). if is_summary k then cond b (Some piece.1) (fact_at compare rest k) else None) apart))
 
 listed_has : (keys : List Key) (k : Key) → is_listed compare keys k ≡ true → Has keys k
