@@ -1,5 +1,6 @@
 pub mod Changes
 pub mod ExtraCosts
+pub mod Few
 pub mod Fixed
 pub mod Kept
 pub mod Loops

@@ -20,7 +20,7 @@ use Rattle.graph_view.proofs.Keyed.{filter_true}
 use Rattle.graph_view.proofs.Stands.{Has, has_to}
 use Rattle.graph_view.specs.Lists.{place_in}
 use Rattle.graph_view.specs.View.{AreViewed, StepStands}
-use Rattle.local_facts.proofs.Room.{few_keys}
+use Rattle.context_bounds.proofs.Few.{few_keys}
 use Rattle.local_facts.specs.Restricted.{is_listed}
 use Rattle.transfer_rules.specs.Fact.{Piece}
 
@@ -58,7 +58,7 @@ module _ (whole pieces : List Piece) (viewed : AreViewed (keys_of whole)) (risin
 
   fewer : length (filter is_node (keys_of pieces)) ≤ length (filter is_node (keys_of whole))
   fewer =
-      few_keys compare keys_order (filter is_node (keys_of whole)) (key.Summary 0) (filter is_node (keys_of pieces))
+      few_keys (filter is_node (keys_of whole)) (key.Summary 0) (filter is_node (keys_of pieces))
       (IsStrictlySortedBy-filter compare is_node (keys_of pieces) rising)
       (all_of (λ k. is_listed compare (filter is_node (keys_of whole)) k ≡ true) (filter is_node (keys_of pieces))
       (λ k has.
