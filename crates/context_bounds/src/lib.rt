@@ -21,7 +21,8 @@ pub use entering::entered_with;
 pub use fixing::summaries_of;
 pub use laws::{
     called_are_enough, contexts_are_reached, contexts_are_viewed, contexts_pass, contexts_stand,
-    facts_are_known, heads_are_outcomes, lists_are_costs, marks_are_all, own_keys_are_kept, views_are_shapes,
+    facts_are_known, heads_are_outcomes, lists_are_costs, marks_are_all, own_keys_are_kept,
+    views_are_shapes,
 };
 pub use nodes::costs_of;
 pub use owning::own_rows;
