@@ -15,7 +15,7 @@ node_at S facts callees (p ∷ nodes) zero = refl
 node_at S facts callees (p ∷ nodes) (suc n) = node_at S facts callees nodes n
 
 pub lists_are_costs : ListsAreCosts
-lists_are_costs {facts} S shape callees costs nodes edges = λ i. record {
+lists_are_costs facts sub S shape callees costs nodes edges = λ i. record {
   node = λ n. (ap (λ (list : List ℕ). slice_index list n) nodes ∙ node_at S facts callees shape.nodes n) i;
   edge = λ n m. edges n m i;
 }

@@ -41,7 +41,7 @@ one_outcome S within loops one outcome is = record {
 }
 
 pub heads_are_outcomes : HeadsAreOutcomes
-heads_are_outcomes S within loops outcomes are = record {
+heads_are_outcomes sub context S within loops outcomes are = record {
   count = are.count;
   each = λ k one outcome at told. one_outcome S within loops one outcome (are.each k one outcome at told);
 }

@@ -40,24 +40,24 @@ kept_where p [] k = none_of (p k)
 kept_where p (piece ∷ rest) k = by (kept_where p rest k) (cases_Bool (is_eq (compare k piece.0))) (cases_Bool (p piece.0))
   where
     by : (is_listed compare (filter p (keys_of rest)) k ≡ (p k && is_some (fact_at compare rest k))) → (is_eq (compare k piece.0) ≡ true) ⊎ (is_eq (compare k piece.0) ≡ false) → (p piece.0 ≡ true) ⊎ (p piece.0 ≡ false)
-        → is_listed compare (cond (p piece.0) (piece.0 ∷ filter p (keys_of rest)) filter p (keys_of rest)) k ≡ (p k && is_some (cond (is_eq (compare k piece.0)) (Some piece.1) (fact_at compare rest k)))
+        → is_listed compare (cond (p piece.0) (piece.0 ∷ (filter p (keys_of rest))) (filter p (keys_of rest))) k ≡ (p k && is_some (cond (is_eq (compare k piece.0)) (Some piece.1) (fact_at compare rest k)))
     by below (inl same) (inl passing) =
         let e : k ≡ piece.0 = keys_are_ordered.exact k piece.0 (equal_from_is_eq (compare k piece.0) same) in
-        ap (λ (b : Bool). is_listed compare (cond b (piece.0 ∷ filter p (keys_of rest)) filter p (keys_of rest)) k) passing
-        ∙ (ap (λ (b : Bool). b || is_listed compare filter p (keys_of rest) k) (either_way piece.0 k ∙ same)
+        ap (λ (b : Bool). is_listed compare (cond b (piece.0 ∷ (filter p (keys_of rest))) (filter p (keys_of rest))) k) passing
+        ∙ (ap (λ (b : Bool). b || is_listed compare (filter p (keys_of rest)) k) (either_way piece.0 k ∙ same)
         ∙ sym (ap (λ (b : Bool). p k && is_some (cond b (Some piece.1) (fact_at compare rest k))) same ∙ ap (λ (b : Bool). b && true) (ap p e ∙ passing)))
     by below (inl same) (inr failing) =
         let e : k ≡ piece.0 = keys_are_ordered.exact k piece.0 (equal_from_is_eq (compare k piece.0) same) in
-        ap (λ (b : Bool). is_listed compare (cond b (piece.0 ∷ filter p (keys_of rest)) filter p (keys_of rest)) k) failing
+        ap (λ (b : Bool). is_listed compare (cond b (piece.0 ∷ (filter p (keys_of rest))) (filter p (keys_of rest))) k) failing
         ∙ (below
         ∙ (ap (λ (b : Bool). b && is_some (fact_at compare rest k)) (ap p e ∙ failing)
         ∙ sym (ap (λ (b : Bool). b && is_some (cond (is_eq (compare k piece.0)) (Some piece.1) (fact_at compare rest k))) (ap p e ∙ failing))))
     by below (inr apart) (inl passing) =
-        ap (λ (b : Bool). is_listed compare (cond b (piece.0 ∷ filter p (keys_of rest)) filter p (keys_of rest)) k) passing
-        ∙ (ap (λ (b : Bool). b || is_listed compare filter p (keys_of rest) k) (either_way piece.0 k ∙ apart)
+        ap (λ (b : Bool). is_listed compare (cond b (piece.0 ∷ (filter p (keys_of rest))) (filter p (keys_of rest))) k) passing
+        ∙ (ap (λ (b : Bool). b || is_listed compare (filter p (keys_of rest)) k) (either_way piece.0 k ∙ apart)
         ∙ (below ∙ sym (ap (λ (b : Bool). p k && is_some (cond b (Some piece.1) (fact_at compare rest k))) apart)))
     by below (inr apart) (inr failing) =
-        ap (λ (b : Bool). is_listed compare (cond b (piece.0 ∷ filter p (keys_of rest)) filter p (keys_of rest)) k) failing
+        ap (λ (b : Bool). is_listed compare (cond b (piece.0 ∷ (filter p (keys_of rest))) (filter p (keys_of rest))) k) failing
         ∙ (below ∙ sym (ap (λ (b : Bool). p k && is_some (cond b (Some piece.1) (fact_at compare rest k))) apart))
 
 both_of : (b c : Bool) → ((b && c) ≡ true) ↔ ((b ≡ true) × (c ≡ true))

@@ -13,7 +13,7 @@ use Rattle.transfer_rules.specs.Give.{Facts}
 -- costs of nodes and of edges as lists are those of the walks of a graph of facts
 abbrev pub ListsAreCosts : Type 0
 ListsAreCosts =
-    {facts : Facts} {sub : ℕ} (S : Setting) (shape : Shape facts sub) (callees : Callees) (costs : Weights)
+    (facts : Facts) (sub : ℕ) (S : Setting) (shape : Shape facts sub) (callees : Callees) (costs : Weights)
     → costs.node.items ≡ costs_at S facts shape.nodes (map callees shape.nodes)
     → ((n m : ℕ) → extra_of costs.extra.items n m ≡ (if is_edge shape.graph n m then cost_between S.image S.costs shape.nodes n m else 0))
     → costs_in costs ≡ costs_of S shape callees

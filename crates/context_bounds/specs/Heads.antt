@@ -34,6 +34,6 @@ pub record AreHeadOutcomes (graph : List (List ℕ)) (nodes : List Place) (loops
 -- so they are the loops of the context with what bounds each
 abbrev pub HeadsAreOutcomes : Type 0
 HeadsAreOutcomes =
-    {sub : ℕ} {context : Context} (S : Setting) (within : Inside S sub context) (loops : List Loop) (outcomes : List LoopOutcome)
+    (sub : ℕ) (context : Context) (S : Setting) (within : Inside S sub context) (loops : List Loop) (outcomes : List LoopOutcome)
     → AreHeadOutcomes within.shape.graph within.shape.nodes loops (changes_in S within) (state_at S within.args within.facts) S.binding (length loops) outcomes
     → AreLoopOutcomes S within loops outcomes

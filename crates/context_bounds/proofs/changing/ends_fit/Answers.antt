@@ -8,15 +8,15 @@ pub returns-then-fits : goal.returns-then-fits
 returns-then-fits c =
     high_decides c.args.value.now c.args.k c.moved.result c.fits.result
     (c.moved.ensures
-    ∙ (ap (λ (k : ℤ). number_at c.ends-low.result.0 +ℤ k) (to_z-of_z w64 c.args.k c.ranges.k.sfits) ∙ ap (λ (n : ℕ). number_at n +ℤ c.args.k) c.ends-low.ensures.low))
+    ∙ (ap (λ (k : ℤ). number_at c.ends-low.result.0 +ℤ k) (to_z-of_z w64 c.args.k c.ranges.k) ∙ ap (λ (n : ℕ). number_at n +ℤ c.args.k) c.ends-low.ensures.low))
     c.fits.ensures c.moved-then-fits.result c.fits-then-fits.result c.if-fits.true
     (c.moved-then-fits.ensures
-    ∙ (ap (λ (k : ℤ). number_at c.ends-low.result.1 +ℤ k) (to_z-of_z w64 c.args.k c.ranges.k.sfits) ∙ ap (λ (n : ℕ). number_at n +ℤ c.args.k) c.ends-low.ensures.high))
+    ∙ (ap (λ (k : ℤ). number_at c.ends-low.result.1 +ℤ k) (to_z-of_z w64 c.args.k c.ranges.k) ∙ ap (λ (n : ℕ). number_at n +ℤ c.args.k) c.ends-low.ensures.high))
     c.fits-then-fits.ensures
 
 pub returns-else-fits : goal.returns-else-fits
 returns-else-fits c =
     low_decides c.args.value.now c.args.k c.moved.result c.fits.result
     (c.moved.ensures
-    ∙ (ap (λ (k : ℤ). number_at c.ends-low.result.0 +ℤ k) (to_z-of_z w64 c.args.k c.ranges.k.sfits) ∙ ap (λ (n : ℕ). number_at n +ℤ c.args.k) c.ends-low.ensures.low))
+    ∙ (ap (λ (k : ℤ). number_at c.ends-low.result.0 +ℤ k) (to_z-of_z w64 c.args.k c.ranges.k) ∙ ap (λ (n : ℕ). number_at n +ℤ c.args.k) c.ends-low.ensures.low))
     c.fits.ensures c.if-fits.false

@@ -7,7 +7,7 @@ use Rattle.context_bounds.proofs.fixing.summaries_of.Goals as goal
 use Rattle.transfer_rules.specs.Fact.{Piece}
 
 pub loop-key-init : goal.loop-key-init
-loop-key-init c = subst (λ (fixed : List Piece). AreCopies c.args.whole.now fixed []) (sym c.empty.ensures.none) (copied_nothing c.args.whole.now)
+loop-key-init c = subst (λ (fixed : List Piece). AreCopies c.args.whole.now fixed []) (sym c.empty-fixed.ensures.none) (copied_nothing c.args.whole.now)
 
 pub loop-key-preserved : goal.loop-key-preserved
 loop-key-preserved c =
