@@ -12,18 +12,14 @@ use Rattle.value_lattice.specs.Ends.{high_end, low_end}
 use Rattle.value_lattice.specs.Order.{number_at}
 use Rattle.value_lattice.specs.declared.value.Value.{Value}
 
-module _ (v : Value) (k low : ℤ) (a : Bool) (is : low ≡ number_at (low_end v) +ℤ k) (tested : a ≡ fits low) where
-  first : (b : Bool) → a ≡ b → fits (number_at (low_end v) +ℤ k) ≡ b
-  first b same = sym (ap fits is) ∙ (sym tested ∙ same)
-
+module _ (v : Value) (k : ℤ) (a : Bool) (tested : a ≡ fits (number_at (low_end v) +ℤ k)) where
   -- where the least fits the greatest decides
-  pub high_decides : (high : ℤ) (b : Bool) → a ≡ true → high ≡ number_at (high_end v) +ℤ k → b ≡ fits high → b ≡ ends_fit v k
-  high_decides high b passing at also =
-      also ∙ (ap fits at ∙ sym (ap (λ (t : Bool). t && fits (number_at (high_end v) +ℤ k)) (first true passing)))
+  pub high_decides : (b : Bool) → a ≡ true → b ≡ fits (number_at (high_end v) +ℤ k) → b ≡ ends_fit v k
+  high_decides b passing also = also ∙ sym (ap (λ (t : Bool). t && fits (number_at (high_end v) +ℤ k)) (sym tested ∙ passing))
 
   -- else nothing more is asked
   pub low_decides : a ≡ false → a ≡ ends_fit v k
-  low_decides failing = failing ∙ sym (ap (λ (t : Bool). t && fits (number_at (high_end v) +ℤ k)) (first false failing))
+  low_decides failing = failing ∙ sym (ap (λ (t : Bool). t && fits (number_at (high_end v) +ℤ k)) (sym tested ∙ failing))
 
 -- where nothing is left of a state any change of what is written counts
 pub none_left : (S : Setting) (p : Place) (state : Option State) (mask : ℕ) → state ≡ None → mask ≡ written_at S p → Other mask ≡ change_at S p state

@@ -89,13 +89,21 @@ fn moved(place: u32, k: i64) -> i64
     number_at(place) + k
 }
 
+/// Whether the number at a place is one of 32 bits once one is added.
+fn stays(place: u32, k: i64) -> bool
+    requires { fits k ≡ true }
+    ensures { result ≡ fits (number_at place +ℤ k) }
+{
+    fits(moved(place, k))
+}
+
 /// Whether both ends of a value, read with sign, are numbers of 32 bits once a number is added.
 fn ends_fit(value: &Value, k: i64) -> bool
     requires { fits k ≡ true }
     ensures { result ≡ ends_fit value.now k }
 {
     let (low, high) = value.ends();
-    fits(moved(low, k)) && fits(moved(high, k))
+    stays(low, k) && stays(high, k)
 }
 
 /// That a number is added to a cell, where it and the cell's ends allow it.
