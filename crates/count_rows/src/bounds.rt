@@ -134,7 +134,10 @@ fn two_ways(rt: HostRuntime) -> Result<(), Fail> {
             &[none(), add(8, 1), add(8, 1), none()],
             bound(8, 1, 0, 9, 10),
         ),
-        (&[none(), add(8, 3), add(8, 2), none()], bound(8, 2, 0, 9, 5)),
+        (
+            &[none(), add(8, 3), add(8, 2), none()],
+            bound(8, 2, 0, 9, 5),
+        ),
         (&[none(), add(8, 1), add(8, -1), none()], None),
         (&[add(8, 1), add(8, -1), none(), none()], None),
         (
