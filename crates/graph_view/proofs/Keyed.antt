@@ -1,9 +1,8 @@
 -- Keys that a view can be made of: what their lists keep, and what is of one subprogram.
-use Rattle.std.proofs.Common.{◌≡◌, ◌==◌, ℕ, suc, ◌+◌, ◌<◌, ◌≤◌, ◌^◌, inl, inr, eqb, Bool, true, false, cond, List, [], ◌∷◌, ◌++◌, length, get_or, map, Option, Some, None, Contains, refl, sym, ap, ◌∙◌, subst, arith}
+use Rattle.std.proofs.Common.{◌≡◌, ◌==◌, ℕ, suc, ◌+◌, ◌<◌, ◌≤◌, ◌^◌, inl, inr, eqb, Bool, true, false, cond, List, [], ◌∷◌, ◌++◌, length, get_or, map, Option, None, Contains, refl, sym, ap, ◌∙◌, subst, arith}
 use Rattle.std.specs.Cmp.{nat_eq_equiv}
 use Rattle.std.specs.List.{flat_map, filter, AllByRecursion, IsDistinct}
-use Rattle.std.specs.List.Sorted.{IsNonDecreasingBy, IsStrictlyIncreasing, IsStrictlySortedBy}
-use Rattle.std.specs.Set.{is_member}
+use Rattle.std.specs.List.Sorted.{IsStrictlyIncreasing, IsStrictlySortedBy}
 use Rattle.std.specs.declared.cmp.Ordering.TheVariants.{Less}
 use Rattle.std.proofs.Math.ListN.{get_or-append}
 use Rattle.std.proofs.lemmas.Bool.{cases_lt, false≢true, ne_eqb}
@@ -18,17 +17,17 @@ use Rattle.abs_state.specs.Key.{compare}
 use Rattle.abs_state.specs.declared.key.Key.{Key}
 use Rattle.abs_state.specs.declared.key.Key.TheVariants.{Node, Edge, Call, Summary, Gap}
 use Rattle.abs_state.specs.declared.key.Place.{Place}
-use Rattle.graph_view.proofs.Filling.{filter_from, test_is, other_need}
+use Rattle.graph_view.proofs.Filling.{filter_from, other_need}
 use Rattle.graph_view.proofs.Known.{entry_found}
 use Rattle.graph_view.proofs.Stands.{Has, has_from, has_to, keys_stand_in_lists}
 use Rattle.graph_view.specs.CallGraph.{IsAt}
 use Rattle.graph_view.specs.Cycles.{AreCycleCalls, cycle_row}
 use Rattle.graph_view.specs.Details.{shown, AreReady, AreDetails, IsFound, IsWhole}
 use Rattle.graph_view.specs.Laws.{StandInLists}
-use Rattle.graph_view.specs.Lists.{place_in, step_in, calling_in, open_in, AreOfKeys}
+use Rattle.graph_view.specs.Lists.{place_in, AreOfKeys}
 use Rattle.graph_view.specs.Need.{AreCounted, AreCallers, AreNeeds, IsNeed, entry_of}
 use Rattle.graph_view.specs.Numbers.{place_cmp}
-use Rattle.graph_view.specs.Subs.{of_one, AreByOwner, AreSubs, place_sub, calling_sub}
+use Rattle.graph_view.specs.Subs.{AreByOwner, AreSubs, place_sub, calling_sub}
 use Rattle.graph_view.specs.View.{ByKind, AreViewed, by_kind, nodes_of, callings_of}
 use Rattle.graph_view.specs.declared.cycles.Cycles.{Cycles}
 use Rattle.graph_view.specs.declared.details.Details.{Details}

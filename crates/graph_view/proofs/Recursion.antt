@@ -1,8 +1,8 @@
 -- Needs end where calls lead round.
-use Rattle.std.proofs.Common.{◌≡◌, ◌==◌, ℕ, ◌+◌, ◌⊎◌, inl, inr, Bool, true, max, List, [], ◌∷◌, ◌++◌, map, Some, None, refl, sym, ap, ◌∙◌, subst}
+use Rattle.std.proofs.Common.{◌≡◌, ◌==◌, ℕ, ◌+◌, Bool, true, max, List, [], ◌∷◌, ◌++◌, map, refl, sym, ap, subst}
 use Rattle.bt_base.specs.Graph.{has}
 use Rattle.abs_state.specs.declared.key.Place.{Place}
-use Rattle.call_laws.specs.Calls.{LeadsTo, ReachesCycle}
+use Rattle.call_laws.specs.Calls.{ReachesCycle}
 use Rattle.call_laws.specs.Result.{LooksAtCallees}
 use Rattle.call_laws.proofs.Results.{results_away, results_one}
 use Rattle.cyclic_parts.proofs.Lists.{or_left, or_right}

@@ -1,5 +1,5 @@
 //! The calls inside call cycles.
-ghost use Rattle.std.specs.Prelude.{◌≡◌, ◌<◌, ◌^◌, ◌++◌, [], ◌∷◌, ℕ, true, Contains, IfOk, IfSome, OnOk, Some, length, replicate, slice_set, vec_len};
+ghost use Rattle.std.specs.Prelude.{◌≡◌, ◌<◌, ◌^◌, ◌++◌, [], ◌∷◌, ℕ, true, IfOk, IfSome, OnOk, Some, length, replicate, slice_set, vec_len};
 ghost use Rattle.std.specs.List.Sorted.{IsStrictlyIncreasing};
 ghost use Rattle.bt_base.specs.Graph.{has, rows_of};
 ghost use Rattle.cyclic_parts.specs.Parts.{name_of};

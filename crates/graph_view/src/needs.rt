@@ -1,5 +1,5 @@
 //! How many register windows each subprogram needs with all that it calls.
-ghost use Rattle.std.specs.Prelude.{true, false, ◌≡◌, ◌<◌, ◌≤◌, ◌+◌, ◌^◌, ℕ, IfOk, None, Some, Contains, length, max, slice_index_or};
+ghost use Rattle.std.specs.Prelude.{true, false, ◌≡◌, ◌<◌, ◌≤◌, ◌+◌, ◌^◌, ℕ, IfOk, None, Some, Contains, length, max};
 ghost use Rattle.std.specs.List.Sorted.{IsStrictlyIncreasing};
 ghost use Rattle.bt_base.specs.Graph.{has};
 ghost use Rattle.graph_view.specs.Need.{AreCounted, AreNeeds, IsRight, IsStuck, call_need, deepest, entry_of, filled, known_need};

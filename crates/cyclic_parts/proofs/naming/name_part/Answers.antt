@@ -1,4 +1,4 @@
-use Rattle.std.proofs.Common.{◌≡◌, ◌<◌, Bool, true, Some, Option, ℕ, cond, refl, sym, ap, ◌∙◌, length, get_or, arith}
+use Rattle.std.proofs.Common.{◌≡◌, ◌<◌, Bool, true, Some, cond, ap, ◌∙◌, length, get_or, arith}
 use Rattle.bt_base.specs.Graph.{has}
 use Rattle.cyclic_parts.specs.Parts.{name_of}
 use Rattle.cyclic_parts.proofs.Lists.{has_at, has_take_all}

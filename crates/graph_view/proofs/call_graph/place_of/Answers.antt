@@ -1,4 +1,4 @@
-use Rattle.std.proofs.Common.{◌≡◌, Err, get_or}
+use Rattle.std.proofs.Common.{Err, get_or}
 use Rattle.std.proofs.lemmas.Bool.{false≢true}
 use Rattle.std.proofs.lemmas.Map.Lookups.{exact_unsigned}
 use Rattle.bt_base.proofs.RisingLists.{search_decides}

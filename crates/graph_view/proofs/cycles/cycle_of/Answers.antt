@@ -1,4 +1,4 @@
-use Rattle.std.proofs.Common.{◌≡◌, None, Some, get_or, refl}
+use Rattle.std.proofs.Common.{None, get_or, refl}
 use Rattle.std.proofs.lemmas.Bool.{false≢true}
 use Rattle.graph_view.proofs.CallGraphs.{contains_at}
 use Rattle.graph_view.proofs.Rounds.{in_cycle, name_is}

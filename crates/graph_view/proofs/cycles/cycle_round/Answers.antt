@@ -1,7 +1,6 @@
-use Rattle.std.proofs.Common.{◌≡◌, ℕ, None, Some, sym, ap, subst, ◌∙◌}
-use Rattle.graph_view.proofs.Rounds.{none_some, some_is}
+use Rattle.std.proofs.Common.{◌≡◌, sym, ◌∙◌}
+use Rattle.graph_view.proofs.Rounds.{some_is}
 use Rattle.graph_view.proofs.cycles.cycle_round.Goals as goal
-use Rattle.graph_view.specs.Cycles.{IsInCycle}
 
 pub returns-in_default-clause-all : goal.returns-in_default-clause-all
 returns-in_default-clause-all c = λ name h. absurd (c.in_default.not-Some name (c.cycle_of.ensures.all name h.caller))

@@ -1,4 +1,4 @@
-use Rattle.std.proofs.Common.{◌≡◌, ◌<◌, ◌≤◌, ◌∙◌, ℕ, List, Option, Some, length, vec_len, arith, subst, sym}
+use Rattle.std.proofs.Common.{◌≡◌, ◌<◌, ◌≤◌, ◌∙◌, ℕ, List, Option, Some, length, vec_len, arith, subst}
 use Rattle.bt_base.specs.Graph.{is_edge, rows_of}
 use Rattle.cyclic_parts.specs.Parts.{AreParts, name_of}
 use Rattle.graph_view.proofs.Rounds.{cycles_are}

@@ -1,10 +1,9 @@
-use Rattle.std.proofs.Common.{◌≡◌, ◌<◌, ◌++◌, [], ◌∷◌, ℕ, List, length, set, refl, ap, ◌∙◌, arith}
+use Rattle.std.proofs.Common.{◌<◌, ◌++◌, [], ◌∷◌, ℕ, List, length, set, refl, ap, ◌∙◌, arith}
 use Rattle.std.proofs.lemmas.Result.{on_ok_weaker}
 use Rattle.bt_base.specs.Graph.{rows_of}
 use Rattle.graph_view.proofs.Rounds.{puts_none, puts_one, rows_low}
 use Rattle.graph_view.proofs.cycles.put_call.Goals as goal
 use Rattle.graph_view.specs.Cycles.{row_of}
-use Rattle.graph_view.specs.Sites.{call_address}
 
 pub push_at-requires : goal.push_at-requires
 push_at-requires c = c.requires.within c.in-Some.ensures.is.caller.number c.in-Some.name c.in-Some.ensures.is.caller.named

@@ -1,4 +1,4 @@
-use Rattle.std.proofs.Common.{refl, ◌∙◌, ◌≡◌, ◌≤◌, subst, sym, vec_len, arith}
+use Rattle.std.proofs.Common.{refl, ◌∙◌, ◌≤◌, vec_len, arith}
 use Rattle.bt_base.specs.Graph.{rows_of}
 use Rattle.graph_view.proofs.Rounds.{risen_none, risen_more, risen_up}
 use Rattle.graph_view.proofs.cycles.put_rows_in_order.Goals as goal

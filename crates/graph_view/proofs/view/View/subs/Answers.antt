@@ -1,6 +1,5 @@
 use Rattle.std.proofs.Common.{ℕ, List, sym, subst}
 use Rattle.graph_view.proofs.view.View.subs.Goals as goal
-use Rattle.graph_view.specs.Details.{shown}
 use Rattle.graph_view.specs.Subs.{AreSubs}
 use Rattle.graph_view.specs.View.{ByKind}
 
