@@ -7,7 +7,8 @@ use Rattle.clap.specs.Lexer.{long_of, long_of_rest, short_of, short_of_rest, str
 use Rattle.clap.specs.Faults.{check_fault, defaults_fault, level_fault, settle_fault, step_fault, walk_fault, word_fault}
 use Rattle.clap.specs.Kinds.{Kinds, or_else, value_kinds}
 use Rattle.clap.specs.Simple.{Shape}
-use Rattle.clap.specs.Walk.{Held, Step, Text, Walk, after_step, arg_by_index, finished, idle, option, plain_word, settled, to_positional, value, walk_from, walked, word_met, nothing_held}
+use Rattle.clap.specs.Walk.{Held, Step, Text, Walk, after_step, arg_by_index, finished, idle, option, plain_word, settled, to_positional, value}
+use Rattle.clap.specs.Walk.{walk_from, walked, word_met, nothing_held}
 use Rattle.clap.specs.Values.{IsSignedIn, refused_kind}
 use Rattle.clap.specs.declared.builder.value_parser.ValueParser.TheVariants as vp
 use Rattle.clap.proofs.ValueTestLemmas.{Accepts-accepts}
@@ -101,7 +102,8 @@ after_walk s end =
 
 -- ---- three names
 
-module _ (image cycles assertions : Text) (is_image : is_name image ≡ true) (is_cycles : is_name cycles ≡ true) (is_assertions : is_name assertions ≡ true) where
+module _ (image cycles assertions : Text) (is_image : is_name image ≡ true) (is_cycles : is_name cycles ≡ true)
+    (is_assertions : is_name assertions ≡ true) where
   abbrev before : Walk
   before = walk_from nothing_held
 
@@ -182,22 +184,26 @@ module _ (image cycles assertions : Text) (is_image : is_name image ≡ true) (i
     unfolding clap_on_literals
     five_checked =
         let accepted = Accepts-accepts false (vp.Signed (pos 1) (pos 64)) number within in
-        let passed : value_kinds false (vp.Signed (pos 1) (pos 64)) number ≡ [] = ap (λ b. cond b [] (refused_kind (vp.Signed (pos 1) (pos 64)) ∷ [])) accepted in
+        let passed : value_kinds false (vp.Signed (pos 1) (pos 64)) number ≡ [] =
+        ap (λ b. cond b [] (refused_kind (vp.Signed (pos 1) (pos 64)) ∷ [])) accepted in
         both_none _ _ (both_none (value_kinds false (vp.Signed (pos 1) (pos 64)) number) [] passed refl) refl
 
     five_level : level_fault bound_built [] nothing_held (image ∷ cycles ∷ assertions ∷ codes "--workers" ∷ number ∷ []) false [] ≡ []
     five_level = both_none _ _ five_fault (ap (λ (v : Walk). after_walk bound_built v.held) five_walked ∙ five_checked)
 
-    five_rows : requested (codes "bound" ∷ image ∷ cycles ∷ assertions ∷ codes "--workers" ∷ number ∷ []) ≡ Some (bounds image cycles assertions (number_of number))
+    five_rows : requested (codes "bound" ∷ image ∷ cycles ∷ assertions ∷ codes "--workers" ∷ number ∷ []) ≡
+        Some (bounds image cycles assertions (number_of number))
     unfolding clap_on_literals
     five_rows =
         ap (λ (v : Walk). asked_by (codes "bound") (finished bound_built.rules v.held)) five_walked
         ∙ ap (λ (t : Text). Some (bounds image cycles assertions (number_of t))) (number_as_it_is number within)
 
-    pub five_asked : IsRequest (codes "bound" ∷ image ∷ cycles ∷ assertions ∷ codes "--workers" ∷ number ∷ []) (bounds image cycles assertions (number_of number))
+    pub five_asked : IsRequest (codes "bound" ∷ image ∷ cycles ∷ assertions ∷ codes "--workers" ∷ number ∷ [])
+        (bounds image cycles assertions (number_of number))
     unfolding clap_on_literals
     five_asked = record {
-      faultless = both_none (level_fault bound_built [] nothing_held (image ∷ cycles ∷ assertions ∷ codes "--workers" ∷ number ∷ []) false []) _ five_level refl;
+      faultless = both_none (level_fault bound_built [] nothing_held (image ∷ cycles ∷ assertions ∷ codes "--workers" ∷ number ∷ []) false []) _
+          five_level refl;
       asks = five_rows;
       workers = number_within number within;
     }

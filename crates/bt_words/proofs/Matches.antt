@@ -1,5 +1,6 @@
 -- Words without a fault are matched with all that their subcommand asks for.
-use Rattle.std.proofs.Common.{◌≡◌, ◌∙◌, ◌<◌, ◌||◌, Bool, cond, codes, true, false, not, List, [], ◌∷◌, ◌++◌, length, Option, Some, None, option_map, is_some, inl, inr, refl, sym, ap, subst, arith}
+use Rattle.std.proofs.Common.{◌≡◌, ◌∙◌, ◌<◌, ◌||◌, Bool, cond, codes, true, false, not, List, [], ◌∷◌, ◌++◌, length, Option, Some, None, option_map}
+use Rattle.std.proofs.Common.{is_some, inl, inr, refl, sym, ap, subst, arith}
 use Rattle.std.specs.Prelude.{find, option_and_then, pos, slice_get, unwrap_or}
 use Rattle.std.specs.List.{fold}
 use Rattle.std.specs.Option.{option_map_or}
@@ -8,11 +9,13 @@ use Rattle.std.proofs.lemmas.Slice.Eq.{bytes_eq-Decides}
 use Rattle.clap.specs.Facts.{explicit_source, parser_of_value}
 use Rattle.clap.specs.Faults.{check_fault, entered_fault, fault_of, level_fault, values_fault}
 use Rattle.clap.specs.Kinds.{check_kinds}
-use Rattle.clap.specs.Simple.{App, Shape, built, built_leaf, entered, inherited, label_of, marked_built, names_of, on_top, rows_at, subcommand_of, with_leaf_noted}
+use Rattle.clap.specs.Simple.{App, Shape, built, built_leaf, entered, inherited, label_of, marked_built, names_of, on_top, rows_at, subcommand_of}
+use Rattle.clap.specs.Simple.{with_leaf_noted}
 use Rattle.clap.specs.Takes.{is_given}
 use Rattle.clap.specs.ValueTests.{accepts}
 use Rattle.clap.specs.Values.{read_as}
-use Rattle.clap.specs.Walk.{Row, Rule, Text, answers_to, arg_by_id, default_rows, has_row, more_values, nothing_held, reading_by, row_text, rows_after, settled, walk, with_default, with_values}
+use Rattle.clap.specs.Walk.{Row, Rule, Text, answers_to, arg_by_id, default_rows, has_row, more_values, nothing_held, reading_by, row_text}
+use Rattle.clap.specs.Walk.{rows_after, settled, walk, with_default, with_values}
 use Rattle.clap.specs.declared.builder.value_parser.ValueParser.TheVariants as vp
 use Rattle.clap.specs.declared.error.ErrorKind.{ErrorKind}
 use Rattle.clap.specs.declared.parser.matches.ValueSource.{ValueSource}
@@ -52,7 +55,8 @@ row_there id (x ∷ xs) e = go (bytes_eq x.id id) e (row_there id xs)
     go true e later = (x, refl)
     go false e later = later e
 
-fit_row : (c : List Rule) (a : Rule) (id : Text) (rows : List Row) (r : Row) → Each (IsFit c) rows → arg_by_id c id ≡ Some a → row_by_id id rows ≡ Some r → Fits a r
+fit_row : (c : List Rule) (a : Rule) (id : Text) (rows : List Row) (r : Row) → Each (IsFit c) rows → arg_by_id c id ≡ Some a
+    → row_by_id id rows ≡ Some r → Fits a r
 fit_row c a id rows r fits known found =
     let fit = each_found (IsFit c) (λ (r : Row). bytes_eq r.id id) rows r fits found in
     let same = (bytes_eq-Decides r.id id).0 (found_passes (λ (r : Row). bytes_eq r.id id) rows r found) in
@@ -63,7 +67,8 @@ first_some [] lt = absurd (omega arith)
 first_some (x ∷ xs) lt = refl
 
 -- an argument that was given has a value
-given_text : (c : List Rule) (a : Rule) (id : Text) (rows : List Row) → Each (IsFit c) rows → arg_by_id c id ≡ Some a → is_given id rows ≡ true → HasText id rows
+given_text : (c : List Rule) (a : Rule) (id : Text) (rows : List Row) → Each (IsFit c) rows → arg_by_id c id ≡ Some a → is_given id rows ≡ true
+    → HasText id rows
 given_text c a id rows fits known given =
     let row = given_row id rows given in
     let fit = fit_row c a id rows row.0 fits known row.1 in
@@ -81,12 +86,14 @@ placed id a s values (r ∷ rs) self = go (bytes_eq r.id id) refl (placed id a s
     go true at later = rw at refl
     go false at later = rw at later
 
-default_there : (a : Rule) (v : Text) (vs : List Text) (rows : List Row) → a.defaults ≡ v ∷ vs → bytes_eq a.id a.id ≡ true → has_row a.id (with_default rows a) ≡ true
+default_there : (a : Rule) (v : Text) (vs : List Text) (rows : List Row) → a.defaults ≡ v ∷ vs → bytes_eq a.id a.id ≡ true
+    → has_row a.id (with_default rows a) ≡ true
 default_there a v vs rows defaults self = go (has_row a.id rows) refl
   where
     go : (b : Bool) → has_row a.id rows ≡ b → has_row a.id (cond b rows (default_rows a.id (reading_by a) a.defaults rows)) ≡ true
     go true at = at
-    go false at = subst (λ (d : List Text). has_row a.id (default_rows a.id (reading_by a) d rows) ≡ true) (sym defaults) (placed a.id a DefaultValue (v ∷ vs) rows self)
+    go false at = subst (λ (d : List Text). has_row a.id (default_rows a.id (reading_by a) d rows) ≡ true) (sym defaults)
+        (placed a.id a DefaultValue (v ∷ vs) rows self)
 
 default_last : (x y z a : Rule) (v : Text) (vs : List Text) (rows : List Row) → a.defaults ≡ v ∷ vs → bytes_eq a.id a.id ≡ true
     → has_row a.id (fold with_default rows (x ∷ y ∷ z ∷ a ∷ [])) ≡ true
@@ -154,11 +161,13 @@ bound_matched words e =
       image = given_text bound_built.rules (rule_in bound_built (codes "IMAGE")) (codes "IMAGE") rows level.0 refl given.0;
       cycles = given_text bound_built.rules (rule_in bound_built (codes "CYCLES")) (codes "CYCLES") rows level.0 refl given.1;
       assertions = given_text bound_built.rules (rule_in bound_built (codes "ASSERTIONS")) (codes "ASSERTIONS") rows level.0 refl given.2;
-      workers = has_number rows level.0 (default_last (rule_in bound_built (codes "IMAGE")) (rule_in bound_built (codes "CYCLES")) (rule_in bound_built (codes "ASSERTIONS"))
+      workers = has_number rows level.0 (default_last (rule_in bound_built (codes "IMAGE")) (rule_in bound_built (codes "CYCLES"))
+          (rule_in bound_built (codes "ASSERTIONS"))
           workers_built (codes "1") [] (settled bound_built.rules (walk bound_built.rules [] nothing_held words).held).rows refl refl);
     }
 
-decode_matched : (words : List Text) → level_fault decode_built [] nothing_held words false [] ≡ [] → HasText (codes "IMAGE") (rows_after decode_built.rules [] words)
+decode_matched : (words : List Text) → level_fault decode_built [] nothing_held words false [] ≡ []
+    → HasText (codes "IMAGE") (rows_after decode_built.rules [] words)
 decode_matched words e =
     let level = level_fits decode_built decode_plain [] words false [] e in
     let rows = rows_after decode_built.rules [] words in
@@ -187,4 +196,5 @@ matched words e =
         → check_fault top_built.top (rows_after top_built.top.rules (names_of top_built) words) (is_some (entered top_built o)) ≡ []
         → IsMatched (entered top_built o)
     go None e check = cc
-    go (Some p) e check = entered_matched (rows_after top_built.top.rules (names_of top_built) words) p.1 (answers_to p.0 (label_of bound_built)) (answers_to p.0 (label_of decode_built)) e check
+    go (Some p) e check = entered_matched (rows_after top_built.top.rules (names_of top_built) words) p.1 (answers_to p.0 (label_of bound_built))
+        (answers_to p.0 (label_of decode_built)) e check

@@ -62,7 +62,8 @@ module _ (c : List Rule) where
   IsPlainRule a = (arg_by_id c a.id ≡ Some a) × (0 < (unwrap_or_range a.range).start_inclusive) × (action_of a ≡ Set)
 
   at_row_fits : (id : Text) (change : Row → List Row) (missing rows : List Row)
-      → ((r : Row) → bytes_eq r.id id ≡ true → IsFit r → Each IsFit (change r)) → Each IsFit missing → Each IsFit rows → Each IsFit (at_row id change missing rows)
+      → ((r : Row) → bytes_eq r.id id ≡ true → IsFit r → Each IsFit (change r)) → Each IsFit missing → Each IsFit rows
+      → Each IsFit (at_row id change missing rows)
   at_row_fits id change missing [] changed new h = new
   at_row_fits id change missing (r ∷ rs) changed new h =
       go (bytes_eq r.id id) refl (at_row_fits id change missing rs changed new h.1)
@@ -84,8 +85,11 @@ module _ (c : List Rule) where
       → Each IsFit (more_values s values r)
   more_fits a s values r plain pass same fit =
       let id = (bytes_eq-Decides r.id a.id).0 same in
-      let old = fit_of a r plain id fit in
-      (row_fits a (record r { values = r.values ++ values; source = Some (stronger r.source s) }) plain id (longer r.values values old.0, values_append a.ignore_case (parser_of_value a.parser) r.values values old.1 pass, old.2), tt)
+      let old = fit_of a r plain id fit in (
+        row_fits a (record r { values = r.values ++ values; source = Some (stronger r.source s) }) plain id
+            (longer r.values values old.0, values_append a.ignore_case (parser_of_value a.parser) r.values values old.1 pass, old.2),
+        tt,
+      )
 
   pub with_values_fit : (a : Rule) (s : ValueSource) (v : Text) (vs : List Text) (rows : List Row) → IsPlainRule a → values_fault a (v ∷ vs) ≡ []
       → Each IsFit rows → Each IsFit (with_values a.id (reading_by a) s (v ∷ vs) rows)
