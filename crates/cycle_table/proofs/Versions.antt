@@ -1,5 +1,6 @@
 -- The classes of a version: where they stand, and which of them a line can name.
-use Rattle.std.proofs.Common.{◌≡◌, ℕ, ◌<◌, inl, inr, Bool, true, ◌&&◌, List, [], ◌∷◌, length, get_or, Option, Some, None, Ok, refl, sym, ap, subst, ◌∙◌, arith, ltb}
+use Rattle.std.proofs.Common.{◌≡◌, ℕ, ◌<◌, inl, inr, Bool, true, ◌&&◌, List, [], ◌∷◌, length, get_or, Option, Some, None, Ok, refl, sym, ap, subst}
+use Rattle.std.proofs.Common.{◌∙◌, arith, ltb}
 use Rattle.std.specs.Prelude.{find}
 use Rattle.std.specs.Str.{bytes_eq}
 use Rattle.std.proofs.lemmas.Bool.{cases_Bool, ltb-true, and_parts}
@@ -10,7 +11,10 @@ use Rattle.line_text.specs.Numeral.{number_up_to}
 use Rattle.cycle_table.specs.declared.classes.Version.{Version}
 use Rattle.cycle_table.specs.declared.classes.Version.TheVariants.{One, Two}
 use Rattle.sparc_decode.specs.declared.cost_class.CostClass.{CostClass}
-use Rattle.sparc_decode.specs.declared.cost_class.CostClass.TheVariants.{Alu, Shift, Sethi, Tagged, Mulscc, Save, Restore, Branch, Floatbranch, Call, Jump, Load, Loaddouble, Store, Storedouble, Atomic, Ready, Writey, Flush, Floatop, Floatcmp, Floatload, Floatloaddouble, Floatstore, Floatstoredouble, Trap, Annulled, Loaduse, Multiply, Divide, Unmodelled}
+use Rattle.sparc_decode.specs.declared.cost_class.CostClass.TheVariants.{Alu, Shift, Sethi, Tagged, Mulscc, Save, Restore, Branch, Floatbranch, Call}
+use Rattle.sparc_decode.specs.declared.cost_class.CostClass.TheVariants.{Jump, Load, Loaddouble, Store, Storedouble, Atomic, Ready, Writey, Flush}
+use Rattle.sparc_decode.specs.declared.cost_class.CostClass.TheVariants.{Floatop, Floatcmp, Floatload, Floatloaddouble, Floatstore, Floatstoredouble}
+use Rattle.sparc_decode.specs.declared.cost_class.CostClass.TheVariants.{Trap, Annulled, Loaduse, Multiply, Divide, Unmodelled}
 
 -- the class at a place
 pub class_at : (class : CostClass) → get_or classes (place_of class) Unmodelled ≡ class
