@@ -111,8 +111,7 @@ counted keyword link expected make phrase result each is =
     (each s.value k.value (record {
       place = s.taken.token.word;
       number = k.taken.token.word;
-      are =
-          ap (λ (ws : List (List ℕ)). keyword ∷ ws) all;
+      are = ap (λ (ws : List (List ℕ)). keyword ∷ ws) all;
       spelled = s.taken.is;
       counted = k.taken.is;
     }))
@@ -135,8 +134,7 @@ ranged phrase result is =
       place = s.taken.token.word;
       register = r.taken.token.word;
       range = k.taken.token.word;
-      are =
-          ap (λ (ws : List (List ℕ)). codes "at" ∷ ws) all;
+      are = ap (λ (ws : List (List ℕ)). codes "at" ∷ ws) all;
       spelled = s.taken.is;
       named = r.taken.is;
       bounded = k.taken.is;
@@ -204,8 +202,7 @@ aimed keyword make phrase result each is =
       place = s.taken.token.word;
       list = words_of l.rest;
       are = ap (λ (ws : List (List ℕ)). keyword ∷ ws) all;
-      spelled =
-          s.taken.is;
+      spelled = s.taken.is;
       listed = listed_is l.rest.end l.rest.tokens m.to m.list;
     }))
 
