@@ -15,6 +15,7 @@ behind list (Ok more) = Ok (list ++ more)
 abbrev pub decided : List Assertion → List Row → Result (List Assertion) AssertRefusal
 decided list rows = limited (behind list (all_of (take (4097 - length list) rows)))
 
+-- the whole list is what is decided from no statement on
 pub nothing_yet : (rows : List Row) → limited (all_of (take 4097 rows)) ≡ decided [] rows
 nothing_yet rows = ap limited (of (all_of (take 4097 rows))) where
   of : (rest : Result (List Assertion) AssertRefusal) → rest ≡ behind [] rest

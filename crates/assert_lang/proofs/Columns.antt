@@ -48,6 +48,7 @@ tokens_stand column inside (b ∷ bytes) =
     (tokens_from (column + 1) (is_plain b) bytes)
     (head_stands column b bytes) (all_further column b bytes (tokens_from (column + 1) (is_plain b) bytes) (tokens_stand (column + 1) (is_plain b) bytes))
 
+-- each word stands at its column of the line
 pub columns_right : ColumnsAreRight
 columns_right line = record {
   each = All-weaker (StandsFrom 1 line) (Stands line)

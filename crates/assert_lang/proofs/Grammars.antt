@@ -267,9 +267,11 @@ stop_here value phrase none = of phrase.tokens none where
   of [] none = refl
   of (token ∷ more) none = cc
 
+-- a text is itself
 pub itself_found : (text : List ℕ) → itself text text ≡ Some text
 itself_found text = rw ((bytes_eq-Decides text text).1 refl) refl
 
+-- each keyword is found by its name
 pub keyword_found : (keyword : Keyword) → keyword_of (name_of keyword) ≡ Some keyword
 unfolding keyword_of
 keyword_found first.Root = refl
@@ -363,5 +365,6 @@ written_is_read phrase (body.CallTo spot to) w = aimed_read first.Call body.Call
 written_is_read phrase (body.Loop spot n) w = counted_read first.Loop (codes "repeats") wanted.Repeats body.Loop spot n phrase (λ rest. refl) w
 written_is_read phrase (body.Stub spot n) w = counted_read first.Stub (codes "time") wanted.Time body.Stub spot n phrase (λ rest. refl) w
 
+-- words are read as a statement exactly where the grammar writes it so
 pub statements_written : StatementsAreWritten
 statements_written phrase result = (read_is_written phrase result, written_is_read phrase result)

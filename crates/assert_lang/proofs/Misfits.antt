@@ -340,5 +340,6 @@ refused_at phrase column (Refused.AtWord earlier token later more stands some st
 refused_at phrase column (Refused.AtEnd more some stuck at) =
     IsRefusedAt.Wanting (begun phrase.tokens more some) (λ value written. stuck (taken phrase.tokens value written)) at
 
+-- a refusal names the first word that doesn't fit
 pub misfits_first : MisfitsAreFirst
 misfits_first phrase column expected is = refused_at phrase column (strict_statement phrase.tokens phrase.end column expected is)

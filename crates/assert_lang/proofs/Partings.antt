@@ -94,5 +94,6 @@ parted_by (suc n) column (x ∷ xs) few = elim (cases_Bool (is_blank x)) [
       (parted_by n (column + length word) rest (shorter n x xs few)))
 ]
 
+-- a line is parted into its words and blanks, and nothing else
 pub lines_parted : LinesAreParted
 lines_parted line = parted_by (length line) 1 line (omega arith)

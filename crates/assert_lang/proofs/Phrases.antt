@@ -73,6 +73,7 @@ rest_of_word column (y ∷ ys) = elim (cases_Bool (is_plain y)) [
       parted column y ys parts ∙ (λ i. tokens_from (n i) false (back i))
 ]
 
+-- the beginning of a list begins with its first
 pub take_one : (n x : ℕ) (xs : List ℕ) → take (1 + n) (x ∷ xs) ≡ x ∷ take n xs
 take_one n x xs = let more : 1 + n ≡ suc n = omega arith in rw more refl
 
@@ -80,11 +81,13 @@ take_one n x xs = let more : 1 + n ≡ suc n = omega arith in rw more refl
 pub head_plain : (x : ℕ) (xs : List ℕ) → is_comma x ≡ false → head_of (x ∷ xs) ≡ x ∷ take (more_of xs) xs
 head_plain x xs other = rw other refl
 
+-- a word is its first byte and the plain ones behind it
 pub head_plain_len : (x : ℕ) (xs : List ℕ) → is_comma x ≡ false → length (head_of (x ∷ xs)) ≡ 1 + more_of xs
 head_plain_len x xs other =
     let same : length (head_of (x ∷ xs)) ≡ length (x ∷ take (more_of xs) xs) = ap length (head_plain x xs other) in
     omega (arith, same, length-take (more_of xs) xs, position_le (λ c. not (is_plain c)) xs)
 
+-- a comma is a word of its own
 pub head_comma : (x : ℕ) (xs : List ℕ) → is_comma x ≡ true → head_of (x ∷ xs) ≡ x ∷ []
 head_comma x xs comma = rw comma refl
 

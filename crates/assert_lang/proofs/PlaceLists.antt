@@ -18,6 +18,7 @@ behind spots (Ok more) = Ok (spots ++ more)
 abbrev pub left : Phrase → Result (List Spot) Fault
 left phrase = listed true phrase.end phrase.tokens
 
+-- what is left of a list of places behind one of them
 abbrev pub further : Phrase → Result (List Spot) Fault
 further phrase = listed false phrase.end phrase.tokens
 
@@ -63,6 +64,7 @@ pub fault_next : (all : Result (List Spot) Fault) (spots : List Spot) (fault : F
 fault_next all spots Want next is fails = tt
 fault_next all spots (Misfit column expected) next is fails = is ∙ ap (behind spots) fails
 
+-- a list that is a fault has that fault
 pub is_fault : {A : Type 0} (defined : Result A Fault) (fault : Fault) → defined ≡ Err fault → IsFaultOf defined fault
 is_fault defined Want is = tt
 is_fault defined (Misfit column expected) is = is

@@ -137,6 +137,7 @@ module _ (image cycles assertions : Text) (is_image : is_name image ≡ true) (i
   unfolding clap_on_literals
   three_rows = ap (λ (v : Walk). asked_by (codes "bound") (finished bound_built.rules v.held)) three_walked
 
+  -- `bound` and three names ask for a report by one worker
   pub three_asked : IsRequest (codes "bound" ∷ image ∷ cycles ∷ assertions ∷ []) (bounds image cycles assertions 1)
   unfolding clap_on_literals
   three_asked = record {
@@ -198,6 +199,7 @@ module _ (image cycles assertions : Text) (is_image : is_name image ≡ true) (i
         ap (λ (v : Walk). asked_by (codes "bound") (finished bound_built.rules v.held)) five_walked
         ∙ ap (λ (t : Text). Some (bounds image cycles assertions (number_of t))) (number_as_it_is number within)
 
+    -- with `--workers` and a number they ask for so many workers
     pub five_asked : IsRequest (codes "bound" ∷ image ∷ cycles ∷ assertions ∷ codes "--workers" ∷ number ∷ [])
         (bounds image cycles assertions (number_of number))
     unfolding clap_on_literals
@@ -226,6 +228,7 @@ module _ (image : Text) (is_image : is_name image ≡ true) where
   unfolding clap_on_literals
   listed_rows = ap (λ (v : Walk). asked_by (codes "decode") (finished decode_built.rules v.held)) listed_walked
 
+  -- `decode` and a name ask for a listing
   pub listed_asked : IsRequest (codes "decode" ∷ image ∷ []) (lists image)
   unfolding clap_on_literals
   listed_asked = record {

@@ -97,6 +97,7 @@ first_met first rest none faultless check =
     none check in
     no_command first rest (bytes_eq first (45 ∷ 45 ∷ [])) turn later last
 
+-- in words without a fault a command comes first
 pub commands_come_first : CommandsComeFirst
 commands_come_first first rest e =
     go (bytes_eq (codes "bound") first) refl (bytes_eq (codes "decode") first) refl

@@ -113,9 +113,11 @@ first_of_row a (v ∷ vs) lt e = (v, refl, passed _ _ (both_pass _ _ e).0)
 abbrev pub built_sub : Shape → Shape
 built_sub s = built_leaf (inherited (on_top with_leaf_noted (on_top marked_built boundt_app)).top s)
 
+-- the command `bound` as clap builds it
 abbrev pub bound_built : Shape
 bound_built = built_sub bound_shape
 
+-- the command `decode` as clap builds it
 abbrev pub decode_built : Shape
 decode_built = built_sub decode_shape
 
@@ -175,6 +177,7 @@ decode_matched words e =
 
 -- ---- the whole command line
 
+-- the whole command line as clap builds it
 abbrev pub top_built : App
 top_built = built boundt_app
 
@@ -186,6 +189,7 @@ entered_matched rows words true d e check = inl (refl, bound_matched words e)
 entered_matched rows words false true e check = inr (refl, decode_matched words e)
 entered_matched rows words false false e check = cc
 
+-- words without a fault are matched by one of the commands
 pub matched : (words : List Text) → fault_of boundt_app words ≡ [] → IsMatched (subcommand_of boundt_app words)
 matched words e =
     let stop = (walk top_built.top.rules (names_of top_built) nothing_held words).stopped in

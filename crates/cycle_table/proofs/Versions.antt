@@ -50,6 +50,7 @@ class_at Multiply = refl
 class_at Divide = refl
 class_at Unmodelled = refl
 
+-- two classes at one place are one
 pub same_class : (one other : CostClass) → place_of one ≡ place_of other → one ≡ other
 same_class one other same = sym (class_at one) ∙ ap (λ (n : ℕ). get_or classes n Unmodelled) same ∙ class_at other
 
@@ -63,6 +64,7 @@ pub as_many : (version : Version) → length (classes_of version) ≡ count_of v
 as_many One = refl
 as_many Two = refl
 
+-- a class of a version stands at its place in the list of its classes
 pub stands_in : (version : Version) (class : CostClass) → place_of class < count_of version → get_or (classes_of version) (place_of class) Unmodelled ≡ class
 stands_in One class within = get_or-take 27 classes (place_of class) Unmodelled within ∙ class_at class
 stands_in Two class within = class_at class

@@ -57,6 +57,7 @@ line_before text within =
 blank_first : (x : ℕ) (xs : List ℕ) → is_blank x ≡ true → words_of (x ∷ xs) ≡ words_of xs
 blank_first x xs blank = rw blank refl
 
+-- one more is dropped from behind the first
 pub drop_one : (n x : ℕ) (xs : List ℕ) → drop (1 + n) (x ∷ xs) ≡ drop n xs
 drop_one n x xs = let more : 1 + n ≡ suc n = omega arith in rw more refl
 

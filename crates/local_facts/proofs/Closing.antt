@@ -43,12 +43,14 @@ module _ {K V : Type 0} (cmp : K → K → Ordering) (m : Rules K V) (law : IsLa
         piece_local cmp m starts keep fixed s j v (closed.given k has j v r.0 r.1);
   }
 
+  -- the due graph of the restricted system is the least map
   pub least_from_due : (s : K → Option V) → IsDueGraph (restricted cmp m starts keep fixed) s → IsLeastLocal cmp m starts keep fixed s
   least_from_due s due = record {
     closed = local_closed s due.closed;
     least = λ t closed k v found. piece_whole cmp m starts keep fixed t k v (due.least k v found t (whole_closed t closed));
   }
 
+  -- the least map is the due graph of the restricted system
   pub due_from_least : (s : K → Option V) → IsLeastLocal cmp m starts keep fixed s → IsDueGraph (restricted cmp m starts keep fixed) s
   due_from_least s least = record {
     closed = whole_closed s least.closed;
@@ -61,6 +63,7 @@ module _ {K V : Type 0} (cmp : K → K → Ordering) (m : Rules K V) (law : IsLa
   least_from_due_of r s t is due same =
       least_from_due t (subst (λ x. IsDueGraph (restricted cmp m starts keep fixed) x) (sym same) (subst (λ x. IsDueGraph x s) is due))
 
+  -- the limit of the restricted system is one on the counted keys of the whole
   pub within_of : (r : Rules K V) (facts facts' : List (K × V)) (limit limit' : ℕ) → r ≡ restricted cmp m starts keep fixed
       → counted_keys r facts ≤ limit → facts' ≡ facts → limit ≡ limit' → counted_keys m facts' ≤ limit'
   within_of r facts facts' limit limit' is within same to =
