@@ -88,6 +88,7 @@ pub join_is_state : (t : List ℕ) (a b : State) → IsThresholds t → IsState 
 join_is_state t a b is left right first second =
     stands_state t (joined t a b) (join_stands t a b is (state_stands t a left first) (state_stands t b right second))
 
+-- the join of two states is the least that is at least both, and its flags speak of no return address
 pub states_are_joined : StatesAreJoined
 states_are_joined = record { stands = both; first = first; second = second; least = least } where
   both : (t : List ℕ) (a b : State) → IsThresholds t → is_state_over t a ≡ true → is_state_over t b ≡ true → is_state_over t (joined t a b) ≡ true

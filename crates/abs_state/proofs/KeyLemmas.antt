@@ -112,5 +112,6 @@ exact (Gap s p w) (Edge r t) e = absurd (let f : Greater ≡ Equal = e in cc)
 exact (Gap s p w) (Call q d) e = absurd (let f : Greater ≡ Equal = e in cc)
 exact (Gap s p w) (Summary t) e = absurd (let f : Greater ≡ Equal = e in cc)
 
+-- keys have one order, which tells all of them apart
 pub keys_are_ordered : KeysAreOrdered
 keys_are_ordered = record { total = total; exact = exact }

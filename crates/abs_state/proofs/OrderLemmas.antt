@@ -51,6 +51,8 @@ stands_state t s is =
       named = is.named;
     }
 
+-- each state is at most itself, the order goes on from one to the next, and two states that are at most each other are
+-- the same
 pub states_are_ordered : StatesAreOrdered
 states_are_ordered = record { same = same; onward = onward; both = both } where
   same : (t : List ℕ) (a : State) → is_state_over t a ≡ true → is_at_most a a ≡ true
@@ -91,6 +93,7 @@ ranks_rise f g up down = elim (up_cases f g up) [ inl same ↦ absurd (both_ways
   known (Cmp a b) none below = let e = ap unknown_rank none in omega arith
   known (Res c) none below = let e = ap unknown_rank none in omega arith
 
+-- a state that is above another one has a greater rank, and the thresholds limit all ranks
 pub states_rise : StatesRise
 unfolding unknown_rank
 states_rise = record { rises = rises; limit = limit } where

@@ -32,6 +32,7 @@ value_up : (b : Bool) (vs us : List Value) (c : ℕ) (v u : Value) → are_at_mo
 value_up true vs us c v u up here = up
 value_up false vs us c v u up here = set_up vs us c v u up here
 
+-- what is written to greater states is greater
 pub writes_keep_order : WritesKeepOrder
 writes_keep_order = record { cell = cell; forgotten = gone } where
   cell : (a b : State) (c : ℕ) (v u : Value) → is_at_most a b ≡ true → is_value_at_most v u ≡ true → is_at_most (with_cell a c v) (with_cell b c u) ≡ true
@@ -118,6 +119,7 @@ pub first_kept : (mask : ℕ) (cells : List Value) → cell_in (forgotten mask c
 first_kept mask [] = refl
 first_kept mask (v ∷ vs) = refl
 
+-- what is written to a state may stand where the state may
 pub writes_stand : WritesStand
 writes_stand = record { cell = cell; flags = flags; forgotten = gone; entry = λ t is. from_stands t entry_state (state_stands t entry_state entry_is_state (entry_all t is)) } where
   cell : (t : List ℕ) (s : State) (c : ℕ) (v : Value) → is_state_over t s ≡ true → is_over t v ≡ true → is_state_over t (with_cell s c v) ≡ true

@@ -61,6 +61,7 @@ apart depth r s low high (Shared e a) (Same f (inr v)) same = omega arith
 apart depth r s low high (Shared e a) (Below f c d) same = omega arith
 apart depth r s low high (Shared e a) (Shared f c) same = omega arith
 
+-- registers of one window have cells of their own
 pub cells_tell_registers_apart : CellsTellRegistersApart
 cells_tell_registers_apart =
     record {

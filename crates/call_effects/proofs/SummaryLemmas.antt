@@ -86,6 +86,8 @@ from_up a b is =
     and_from (implies a.returns b.returns && implies a.skips b.skips) (is_within a.written b.written)
     (and_from (implies a.returns b.returns) (implies a.skips b.skips) is.returns is.skips) is.written
 
+-- each summary is at most itself, the order goes on from one to the next, and two summaries that are at most each other
+-- are the same
 pub summaries_are_ordered : SummariesAreOrdered
 summaries_are_ordered = record { same = same; onward = onward; both = both } where
   same : (a : Summary) → is_at_most a a ≡ true
@@ -111,6 +113,7 @@ summaries_are_ordered = record { same = same; onward = onward; both = both } whe
       let written : a.written ≡ b.written = within_both a.written b.written x.written y.written in
       λ i. record { returns = returns i; skips = skips i; written = written i }
 
+-- what two summaries say together is the least that is at least both
 pub summaries_are_joined : SummariesAreJoined
 summaries_are_joined = record { first = first; second = second; least = least } where
   first : (a b : Summary) → is_at_most a (joined a b) ≡ true

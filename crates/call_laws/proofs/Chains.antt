@@ -124,6 +124,7 @@ no_round calls follows f n (m ∷ between) w = f.apart n m w.0 (reaches_more fol
 followed_away : (calls follows : ℕ → ℕ → Bool) → AreFollowed calls follows → (n : ℕ) → ReachesCycle follows n → ⊥
 followed_away calls follows f n r = no_round calls follows f r.member r.round.between r.round.walk
 
+-- calls that are followed only out of call cycles lead to no cycle, and each chain of them ends
 pub followed_end : FollowedCallsEnd
 followed_end calls follows count f below = record {
   away = followed_away calls follows f;

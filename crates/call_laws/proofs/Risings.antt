@@ -67,10 +67,12 @@ numbers_rise : (xs : List ℕ) → IsStrictlyIncreasing xs → IsRisingBy ◌<�
 numbers_rise [] h = tt
 numbers_rise (x ∷ xs) h = (first_below x xs h, numbers_rise xs (rest_rises x xs h))
 
+-- strictly rising lists of numbers with the same members are one list
 pub rising_lists : RisingListsAreOne
 rising_lists xs ys r s same = rising_one ◌<◌ (record { apart = λ a b l m. omega arith }) xs ys (numbers_rise xs r) (numbers_rise ys s) (λ n. (same n).0)
     (λ n. (same n).1)
 
+-- a context has one list of reasons
 pub reason_lists : ReasonListsAreOne
 reason_lists causes c one two a b =
     rising_lists one two a.rising b.rising (λ r. ((λ x. (b.members r).1 ((a.members r).0 x)), (λ x. (a.members r).1 ((b.members r).0 x))))

@@ -187,5 +187,6 @@ content_word cwp m c is = go (eqb c 0) where
   go true = omega arith
   go false = below_everywhere (2 ^ 32) m.regs (place_of cwp c) (omega arith) is.words
 
+-- registers have what their cells hold; a write of one changes what its cell holds alone; and all are words
 pub registers_hold_contents : RegistersHoldContents
 registers_hold_contents = record { read = read; written = written; words = content_word }

@@ -28,6 +28,9 @@ use Rattle.closed_steps.proofs.Leading.{summary_is}
 use Rattle.closed_steps.proofs.Taking.{done}
 use Rattle.closed_steps.specs.Graph.{Answers, ClosedStatesCoverSteps, GraphsCoverSteps}
 
+-- where the facts at each stack of frames lead on within them, and say of subprograms and of gaps what the rules say,
+-- each step of a run that meets the assertions, from a covered machine where nothing is open, shows what the law of the
+-- stack asks: it goes along an edge to a covered machine, or makes a call and enters it, or comes back
 pub graphs_cover_steps : GraphsCoverSteps
 graphs_cover_steps image costs list eight y x bound graphs = record { inside = inside; into = into; entered = entered; out = out; stubs = graphs.stubs } where
   inside : (invalid : ℕ) (top : Frame) (rest : List Frame) (m next : Machine) → Takes image costs list y x invalid Stays top rest m next
@@ -91,6 +94,7 @@ closed_answers t f m x closed = record {
   says_back = λ p step before after is at flat. closed_says.back t f m x p step before after closed is at flat;
 }
 
+-- so do the facts of any closed state of the rules, at every stack: those of the due graph among them
 pub closed_states_cover_steps : ClosedStatesCoverSteps
 closed_states_cover_steps t image costs list eight x bound thresholds closed =
     graphs_cover_steps image costs list eight (λ stack. x) x bound

@@ -115,6 +115,10 @@ keeps_stubs image heads first rest list meets entry time is = by (about list (of
       subst (λ (x : BoundAssertion). IsMet image heads first rest x.body) f.there (meets f.place item f.within) in
       subst (IsMet image heads first rest) (timed item.body entry time f.same has) met
 
+-- a run from a root that meets the assertions is followed by the facts of any closed state, up to its first gap: each
+-- machine in its top frame is covered by the state at its program point, each frame below keeps the cells that the one
+-- above may not write, each step within a frame is an edge, each push a call, and each pop lands behind its call and goes
+-- on along an edge
 pub runs_follow_closed_states : RunsFollowClosedStates
 runs_follow_closed_states t image costs list eight x heads root first rest bound thresholds closed run =
     runs_followed image costs list (λ stack. x) x root first rest

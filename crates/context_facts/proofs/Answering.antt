@@ -187,9 +187,12 @@ module _ (t more : List ℕ) (f g : Family) (m : Program) (x : Facts) (sub : ℕ
       among : IsAmong x (key.Node (entry_of target)) (fact.State (entered_with (arguments step.depth after)))
       among = in_whole p (key.Node (entry_of target)) (fact.State (entered_with (arguments step.depth after))) (ap is_some is.allowed.found) in_given
 
+-- the facts of a context lead on within them, and the closed state says of subprograms and of gaps what they give
 pub contexts_answer : ContextsAnswer
 contexts_answer t more f g m x sub args s lawful closed context = contexts_answer_here t more f g m x sub args s lawful closed context
 
+-- what a program point of a context calls is entered: in a context of the subprogram whose arguments have those of the
+-- call, and in the closed state
 pub contexts_enter : ContextsEnter
 contexts_enter = record { context = into; whole = whole } where
   into : (t more other : List ℕ) (f g h : Family) (m : Program) (x : Facts) (sub target : ℕ) (args theirs : List Value) (s u : Facts) (p : Place) (step : Step)

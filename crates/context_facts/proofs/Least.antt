@@ -170,6 +170,9 @@ module _ (t more : List ℕ) (f g : Family) (m : Program) (x : Facts) (sub : ℕ
         let in_s = least.closed.given (key.Node p) there k v pieces ((kept.keeps k).1 (own, known)) in
         record { fact = in_s.fact; found = in_s.found; above = in_s.above }
 
+-- the least local map of a context, over the program points, edges and calls that a closed state has of its subprogram,
+-- is the facts of the context: it is below the closed state, though its thresholds are more, because what is given rises
+-- with facts and falls with thresholds
 pub least_maps_are_contexts : LeastMapsAreContexts
 least_maps_are_contexts t more f g m x sub args keep fixed s lawful closed entry kept restricts least =
     least_is_context t more f g m x sub args keep fixed lawful closed entry kept s least

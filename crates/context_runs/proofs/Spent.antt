@@ -125,6 +125,9 @@ module _
             let begun : (machine_at image first rest a.first).cycles ≡ f.start.cycles = ap (λ (m : Machine). m.cycles) (links.0).start in
             omega (arith, spends, begun)
 
+-- where the graphs of contexts are filled in from their facts, and what counts in them counts, each frame of a run has at
+-- each place walked the graph of its context keeping the head bounds, and each frame with a bounded context has spent at
+-- most its bound, at each place without a subprogram that isn't looked into and at its pop
 pub runs_keep_contexts : RunsKeepContexts
 runs_keep_contexts F image costs list x root first rest last sound join i within = (
   record {

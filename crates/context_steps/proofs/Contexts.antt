@@ -176,9 +176,12 @@ module _ (t image : List ℕ) (list : List BoundAssertion) (eight : Bool) (x : F
         leads = tt;
       }
 
+-- each step of a run shows what the law of the stack asks of the facts of the contexts in which frames stand, and of a
+-- closed state where a frame has no context
 pub contexts_cover_steps : ContextsCoverSteps
 contexts_cover_steps t image costs list eight x F bound thresholds closed contexts = cover_steps t image list eight x F bound thresholds closed contexts costs
 
+-- a run from a root that meets the assertions can be followed over the facts of the contexts of its frames
 pub contexts_follow_runs : ContextsFollowRuns
 contexts_follow_runs t image costs list eight x F heads root first rest bound thresholds closed contexts run = record {
   bytes = bound.bytes;
@@ -191,6 +194,8 @@ contexts_follow_runs t image costs list eight x F heads root first rest bound th
   facts = contexts_cover_steps t image costs list eight x F bound thresholds closed contexts;
 }
 
+-- where the graphs of contexts are filled in from their facts, such a run stands at their program points, up to its first
+-- gap
 pub runs_are_placed : RunsArePlaced
 runs_are_placed t image costs list eight x F heads root first rest last bound thresholds closed contexts run filled within before = record {
   follows = contexts_follow_runs t image costs list eight x F heads root first rest bound thresholds closed contexts run;
@@ -199,6 +204,8 @@ runs_are_placed t image costs list eight x F heads root first rest last bound th
   before = before;
 }
 
+-- up to its first gap each frame of such a run walks the graph of its context keeping the bounds of its heads, and each
+-- frame with a bounded context spends at most its bound, at each place and at its pop
 pub runs_spend_bounds : RunsSpendBounds
 runs_spend_bounds t image costs list eight x F heads root first rest last bound thresholds closed contexts run sound filled within before counted place low =
     runs_keep_contexts F image costs list x root first rest last sound

@@ -210,6 +210,7 @@ module _
           (sym (are_frames image first rest i (omega arith)).frames)
           frames)
 
+-- where a run meets the assertions, each frame in a context keeps the bound of each head that is asserted there
 pub asserted_counts : AssertedCountsAreKept
 asserted_counts F image costs list x root first rest last address placed asserted meets i within =
     asserted_kept F image costs list x root first rest last placed address asserted meets i within

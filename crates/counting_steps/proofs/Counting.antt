@@ -360,6 +360,9 @@ module _ (t image costs : List ℕ) (list : List BoundAssertion) (eight : Bool) 
               choose (inl leaves) = leaves.call g.sub into
               choose (inr adds) = absurd (adds.stays g.sub into)
 
+-- where the program points of contexts change the cells of counters as these say, and asserted counts are kept, at each
+-- head of a run the cell is within the counter's numbers, and each step, and each call as a whole, changes it by what its
+-- node adds and takes
 pub counters_count : CountersCount
 counters_count t image costs list eight x F bound thresholds closed contexts changes root first rest last placed asserted = record {
   within = λ place c top below near these context.

@@ -178,6 +178,7 @@ chosen_attained edge entry loops bound costs labels rank ok bounded chosen =
     (attained_from edge entry loops bound costs labels rank ok bounded chosen 0 costs.node (record { rest = λ n b. inl refl }) Anywhere tt entry (labels.rest entry) refl refl (λ z e h. h)).1 in
     record { rest = a.rest; walk = a.walk; keeps = a.keeps; spends = a.spends }
 
+-- labels that do both say the greatest cost
 pub chosen_greatest : ChosenLabelsAreGreatest
 chosen_greatest edge entry loops bound costs labels rank ok bounded asks chosen = record {
   most = labels_bound edge entry loops bound costs labels ok asks;
@@ -192,6 +193,7 @@ walk_inside edge body n (m ∷ rest) b w i = (
   walk_inside edge body m rest i.0 w.1 i.1,
 )
 
+-- labels of the walks inside one body, chosen likewise, say a loop's own greatest cost
 pub own_greatest : OwnLabelsAreGreatest
 own_greatest edge entry loops bound costs labels rank h own ok bounded asks chosen has own_asks own_chosen =
     let a : Attains edge loops bound costs (loops.body h) h (laps_cost loops bound labels h + own h) =

@@ -271,5 +271,6 @@ module _ (edge : ℕ → ℕ → Bool) (entry : ℕ) (loops : Loops) (bound : �
       let x = b.least in
       omega (arith, same, l, c, d, x)
 
+-- labels of the walks inside one body that ask enough bound the cost of each walk inside it from its head
 pub own_bounds : OwnLabelsBoundWalks
 own_bounds edge entry loops bound costs labels h own ok asks has are = own_bound edge entry loops bound costs labels ok asks h own has are

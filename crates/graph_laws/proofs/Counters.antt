@@ -45,11 +45,13 @@ falling_along edge body head changes step label sums n (m ∷ between) b w i p =
       omega (arith, e, r)
 ]
 
+-- labels of sums show that each turn rises by at least the step
 pub rising_sums : RisingSumsBoundTurns
 rising_sums edge body head changes step label b sums between turn =
     let h : label head + step + total changes.down (head ∷ between) ≤ label head + total changes.up (head ∷ between) = rising_along edge body head changes step label sums head between b turn.walk turn.inside turn.once in
     omega (arith, h)
 
+-- labels of sums show that each turn falls by at least the step
 pub falling_sums : FallingSumsBoundTurns
 falling_sums edge body head changes step label b sums between turn =
     let h : label head + total changes.up (head ∷ between) + step ≤ label head + total changes.down (head ∷ between) = falling_along edge body head changes step label sums head between b turn.walk turn.inside turn.once in
@@ -115,6 +117,7 @@ module _ (edge : ℕ → ℕ → Bool) (body : ℕ → Bool) (head : ℕ) (chang
         subst Most (sym q) (fits_from Most zero_of suc_of rest (walk_tail edge v rest walk) inside.1 (counted_tail changes v rest counted) within.1)
   ]
 
+-- a cell whose sum over each turn is at least a step bounds how often the head is passed
 pub rising_passes : CounterBoundsPasses
 rising_passes edge body head changes lo hi step stretch one counted turns =
     fits_from edge body head changes lo hi (λ c q. c + q * step ≤ hi)
@@ -124,6 +127,7 @@ rising_passes edge body head changes lo hi step stretch one counted turns =
     (λ c q l g f. let s : q ≤ (hi - lo) / step = steps_fit q step (hi - lo) one (omega (arith, f)) in omega (arith, s))
     stretch counted.walk counted.inside counted.counted counted.within
 
+-- the same of a cell that falls by at least a step in each turn
 pub falling_passes : FallingCounterBoundsPasses
 falling_passes edge body head changes lo hi step stretch one counted turns =
     fits_from edge body head changes lo hi (λ c q. lo + q * step ≤ c)

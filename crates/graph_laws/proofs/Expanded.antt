@@ -127,5 +127,7 @@ module _ (edge : ℕ → ℕ → Bool) (entry : ℕ) (loops : Loops) (bound : �
             let q = ap costs.node (l.ends ∙ e.ends) in omega (arith, x, y, z, q));
       }
 
+-- each collapsed walk stands for a walk that keeps the head bounds, in which each loop's turn is repeated as often as its
+-- bound allows, and says what it costs
 pub collapsed_expand : CollapsedWalksExpand
 collapsed_expand edge entry loops bound costs turns rank ok bounded are = expanded edge entry loops bound costs turns rank ok bounded are

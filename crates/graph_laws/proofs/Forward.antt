@@ -22,6 +22,7 @@ spent_whole : (costs : Costs) (n : ℕ) (rest : List ℕ) → cost_of costs n re
 spent_whole costs n [] = omega arith
 spent_whole costs n (m ∷ rest) = let e = spent_whole costs m rest in omega (arith, e)
 
+-- what a walk and what follows it have spent add up
 pub spent_sums : SpentAddsUp
 spent_sums = record {
   append = spent-append;
@@ -29,6 +30,7 @@ spent_sums = record {
   whole = spent_whole;
 }
 
+-- the beginning of a walk that keeps the head bounds keeps them, and has spent at most what no walk exceeds
 pub prefixes_less : PrefixesSpendLess
 prefixes_less edge n loops bound costs most one two at_most w keeps =
     let front : KeepsBounds loops bound (n ∷ one) = record {
@@ -50,6 +52,7 @@ turned_walk edge n m (b ∷ between) w =
     walk_on k [] v = (v.0, (w.0, tt))
     walk_on k (r ∷ rest) v = (v.0, walk_on r rest v.1)
 
+-- a walk turned round is a walk of the graph turned round
 pub walks_turned : WalksTurn
 walks_turned = turned_walk
 
@@ -179,6 +182,7 @@ module _ (edge : ℕ → ℕ → Bool) (entry : ℕ) (nest : Nest) (is : IsNest 
             s.inside
       ]
 
+-- where there is a nest, a finite set in which each node has a forward successor is empty
 pub sets_end : SetsHaveEnds
 sets_end edge entry nest is nodes next n = elim (tells (has nodes n)) [
   | inl t ↦ absurd (no_end edge entry nest is nodes next (length nodes) nodes (n ∷ []) n (omega arith) (λ k i. inr i)
@@ -220,11 +224,13 @@ forward_on edge entry loops are n (m ∷ rest) l w = elim (tells (is_back loops 
   | inr t ↦ forward_on edge entry loops are m rest (one_more edge loops entry n m l w.0 t) w.1
 ]
 
+-- what a walk from the entry reaches, a forward walk reaches
 pub reached_forward : ReachedAreReachedForward
 reached_forward edge entry loops are n r =
     let l : LeadsOn edge loops entry (end_of entry r.rest) = forward_on edge entry loops are entry r.rest (nowhere edge loops entry) r.walk in
     record { rest = l.rest; walk = l.walk; forward = l.forward; ends = l.ends ∙ r.ends }
 
+-- a walk from a node of a body back to its head that takes no edge into an outer head stays in the body
 pub walks_stay : WalksBackStay
 walks_stay edge entry nest is h n between a i w =
     let p : SamePart (cut edge (nest.outer h)) h n = (is.body h n a).0 i in
@@ -248,6 +254,7 @@ forward_out loops h n (m ∷ rest) f i = (off (loops.has m) (loops.body h m) (lo
     off true false c g j = cc
     off false b c g j = refl
 
+-- each head of a nest has a turn: a forward walk inside its body and an edge back
 pub heads_turn : HeadsHaveTurns
 heads_turn edge entry nest is reached h a =
     let loops : Loops = loops_of nest in

@@ -56,6 +56,7 @@ module _ (edge : ℕ → ℕ → Bool) (loops : Loops) (head : ℕ) (changes : C
         sum = p.sum;
       }
 
+-- labels of sums that are each what some edge gives are sums of turns: the least of them is the least sum
 pub chosen_sums : ChosenSumsAreAttained
 chosen_sums edge loops head changes label rank at_head chosen = sums_attained edge loops head changes label rank at_head chosen
 
@@ -90,6 +91,7 @@ module _ (edge : ℕ → ℕ → Bool) (entry : ℕ) (loops : Loops) (head : ℕ
       let ne : head ≢ m = λ e. (let q : (m == head) ≡ true = eq-eqb m head (sym e) in cc) in
       (label_kept (suc (rank n)) m n (omega arith) b.0 j ne b.1, keep m n b.0 j ne b.1)
 
+-- where no inner loop changes the cell, labels that meet the checks on the edges but those back to heads meet them on all
 pub forward_rise : ForwardSumsRise
 forward_rise edge entry loops head changes step label rank ok has keep chosen on end = record {
   on = λ n m i j e z. elim (tells (is_back loops n m)) [
@@ -101,6 +103,7 @@ forward_rise edge entry loops head changes step label rank ok has keep chosen on
   end = end;
 }
 
+-- the same of a cell that falls
 pub forward_fall : ForwardSumsFall
 forward_fall edge entry loops head changes step label rank ok has keep chosen on end = record {
   on = λ n m i j e z. elim (tells (is_back loops n m)) [

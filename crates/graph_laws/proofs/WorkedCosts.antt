@@ -109,9 +109,12 @@ two_chosen_turn (suc h) n v a i l = cc
 two_chosen : AreChosen two_nodes two_loops (λ _. 3) ones two_labels two_rank
 two_chosen = record { rest = two_chosen_rest; turn = two_chosen_turn }
 
+-- a loop of two nodes whose head is passed at most three times, with an exit from its head, costs six where each node
+-- costs one
 pub two_cost : LoopOfTwoCostsSix
 two_cost = chosen_greatest two_nodes 0 two_loops (λ _. 3) ones two_labels two_rank two_are_loops (λ h a. omega arith) two_are_labels two_chosen
 
+-- the loop of two nodes has labels that ask enough, each what some edge asks, and they say six
 pub two_has_labels : LoopOfTwoHasLabels
 two_has_labels = record { labels = two_labels; rank = two_rank; asked = two_are_labels; chosen = two_chosen; says = refl }
 
@@ -226,6 +229,7 @@ nested_bounded : (h : ℕ) → nested_nest.has h ≡ true → 1 ≤ nested_bound
 nested_bounded zero a = omega arith
 nested_bounded (suc h) a = omega arith
 
+-- two nested loops, with two passes of the outer head and three of the inner: fourteen
 pub nested_cost : NestedLoopsCostFourteen
 nested_cost = chosen_greatest nested 0 (loops_of nested_nest) nested_bound ones nested_labels nested_rank nested_are_loops nested_bounded nested_are_labels nested_chosen
 
@@ -258,6 +262,7 @@ own_chosen zero i = cc
 own_chosen (suc zero) i = inr (record { next = 2; asked = 1; leads = refl; forward = refl; lower = omega arith; label = refl; is = refl })
 own_chosen (suc (suc n)) i = inl refl
 
+-- the inner loop's own cost: six
 pub inner_cost : InnerLoopCostsSix
 inner_cost = own_greatest nested 0 (loops_of nested_nest) nested_bound ones nested_labels nested_rank 1 own_rest nested_are_loops nested_bounded nested_are_labels nested_chosen refl
     (record { node = own_node; rest = own_falls }) (record { rest = own_chosen })
@@ -271,6 +276,7 @@ two_sum_end zero i e = cc
 two_sum_end (suc zero) i e = omega arith
 two_sum_end (suc (suc n)) i e = cc
 
+-- a counter from 0 to 3 that rises by one in each turn, along a walk that passes the head four times
 pub meets_its_bound : CounterMeetsItsBound
 meets_its_bound = record {
   counted = record {
@@ -327,6 +333,7 @@ turns_lower zero a = ((λ b. omega arith), ((λ b. omega arith), tt))
 turns_lower (suc zero) a = ((λ b. cc), tt)
 turns_lower (suc (suc h)) a = cc
 
+-- the collapsed walk of the nested loops stands for a walk of cost fourteen
 pub collapsed_cost : CollapsedWalkCostsFourteen
 collapsed_cost =
     let e : IsExpanded nested (loops_of nested_nest) nested_bound ones nested_turns 0 (1 ∷ 2 ∷ []) =

@@ -161,6 +161,7 @@ nested_deep : (h : ℕ) → nested_nest.has h ≡ true → length (nested_outer 
 nested_deep zero a = omega arith
 nested_deep (suc h) a = omega arith
 
+-- two nested loops have a nest
 pub nested_is : NestedLoopsHaveANest
 nested_is = record { parts = nested_parts; loop = nested_loop; chain = nested_chain; body = nested_bodies; depth = 2; deep = nested_deep }
 
@@ -187,6 +188,7 @@ never_back n (b ∷ between) w = never_back b between w.1
 from_outside : (n : ℕ) → two_ways 0 n ≡ true → SamePart (cut two_ways []) 1 n → IsEntered two_ways 0 [] 1 n
 from_outside n e p = record { inside = p; comes = inr (record { from = 0; leads = e; outside = λ q. never_back 1 q.there.between q.there.walk }) }
 
+-- a loop that is entered at two nodes has no nest
 pub two_ways_none : TwoWaysHaveNoNest
 two_ways_none nest is =
     no_nest two_ways 0 [] 1 1 2 tt tt
@@ -196,9 +198,11 @@ two_ways_none nest is =
 pub nested_loops : NestedLoopsAreLoops
 nested_loops = record { reached = nested_reached; loops = nested_are_loops }
 
+-- inside the inner body the inner loop alone is left, entered at its head
 pub inner_is_a_loop : InnerLoopIsALoop
 inner_is_a_loop = record { loops = inner_loops nested 0 (loops_of nested_nest) 1 nested_are_loops refl; inner = refl; outer = refl }
 
+-- a walk round the inner loop goes back to its head, and without such edges no walk comes back
 pub nested_unwind : NestedLoopsUnwind
 nested_unwind = record {
   round = (refl, (refl, tt));
@@ -208,6 +212,7 @@ nested_unwind = record {
   none = nests_unwound nested 0 nested_nest nested_is;
 }
 
+-- the inner loop is a part below the outer head, and the outer head is in no part there
 pub inner_is_a_part : InnerLoopIsAPart
 inner_is_a_part = record {
   without = in_inner 2 refl;
@@ -217,6 +222,7 @@ inner_is_a_part = record {
       let z : one_or_two 0 ≡ true = inner_is 0 1 (part-sym (cut nested (0 ∷ [])) 1 0 q) in cc;
 }
 
+-- the nested loops have no other nest
 pub nested_one_nest : NestedLoopsHaveOneNest
 nested_one_nest nest is = one_nest nested 0 nested_nest nest nested_is is
 
@@ -229,6 +235,7 @@ enters_at_head (suc (suc zero)) (suc (suc zero)) i e o = cc
 enters_at_head (suc (suc zero)) (suc (suc (suc from))) i e o = cc
 enters_at_head (suc (suc (suc n))) from i e o = cc
 
+-- the inner body is entered, and at its head alone
 pub inner_entered : InnerBodyIsEntered
 inner_entered =
     let r = nested_reached 2 0 refl in

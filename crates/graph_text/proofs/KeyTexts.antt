@@ -37,6 +37,7 @@ text_from image keys returning lists subs first middle text are_of are is_first 
           ∙ append_assoc (codes "boundt graph 1\n") (flat_map (sub_text image returning keys) subs) (codes "end\n");
     }
 
+-- keys have at most one text
 pub graph_text_is_one : GraphTextIsOne
 graph_text_is_one image keys returning one other text also =
     let subs : text.subs ≡ also.subs =
@@ -119,6 +120,7 @@ module _ (line head places steps calls points : List ℕ) where
       behind line (places ++ (steps ++ (calls ++ points))) head
       (behind line (steps ++ (calls ++ points)) places (behind line (calls ++ points) steps (behind line points calls has)))
 
+-- the line of each program point, and of its subprogram, stands in the text
 pub graph_text_has_places : GraphTextHasPlaces
 graph_text_has_places image keys returning text place graph has =
     let whole : HasWithin (sub_text image returning keys place.sub) text = sub_within image keys returning text place graph has in
@@ -131,6 +133,7 @@ graph_text_has_places image keys returning text place graph has =
           (in_list place_line (of_one place_sub place.sub (flat_map place_in keys)) place (kept place_sub (flat_map place_in keys) place there))) whole,
     )
 
+-- the line of each step stands in the text
 pub graph_text_has_steps : GraphTextHasSteps
 graph_text_has_steps image keys returning text from to graph node has =
     let step : Step = record { from = from; to = to } in
@@ -140,6 +143,7 @@ graph_text_has_steps image keys returning text from to graph node has =
     (in_list step_line (of_one step_sub from.sub (flat_map step_in keys)) step (kept step_sub (flat_map step_in keys) step there)))
     (sub_within image keys returning text from graph node)
 
+-- the line of each call stands in the text
 pub graph_text_has_calls : GraphTextHasCalls
 graph_text_has_calls image keys returning text from callee graph node has =
     let call : Calling = record { from = from; callee = callee } in
@@ -149,6 +153,7 @@ graph_text_has_calls image keys returning text from callee graph node has =
     (in_list call_line (of_one calling_sub from.sub (flat_map calling_in keys)) call (kept calling_sub (flat_map calling_in keys) call there)))
     (sub_within image keys returning text from graph node)
 
+-- the line of each open point stands in the text
 pub graph_text_has_opens : GraphTextHasOpens
 graph_text_has_opens image keys returning text place pc why graph node has =
     let point : OpenPoint = record { sub = place.sub; pc = pc; why = why } in

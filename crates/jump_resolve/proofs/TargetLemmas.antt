@@ -93,6 +93,8 @@ whole_decides v list = (there, back) where
       both_ways (is_member eqb list p.word) (not_true (is_member eqb list p.word) two.1)
       ((member_decides list p.word).1 (each p.word p.fits (eqb-true (p.word % 4) 0 one.0) ((may_have_decides v p.word p.fits).0 two.0))))
 
+-- the list has exactly the candidates that the value may be and that are code, rising, and it is whole exactly where it
+-- is asserted or has each multiple of 4 that the value may be
 pub targets_are_exact : TargetsAreExact
 targets_are_exact = record { rising = λ image v candidates asserted. list_rises image v candidates; list = λ image v candidates asserted a. (in_list image v candidates a, is_in_list image v candidates a); whole = whole } where
   whole : (image : List ℕ) (v : Value) (candidates : List ℕ) (asserted : Bool) → ((targets image v candidates asserted).whole ≡ true) ↔ ((asserted ≡ true) ⊎ HasEach v (targets image v candidates asserted).list)
@@ -105,6 +107,7 @@ targets_are_exact = record { rising = λ image v candidates asserted. list_rises
 more : (v u : Value) (a : ℕ) → a < 2 ^ 32 → is_at_most v u ≡ true → MayHave v a → MayHave u a
 more v u a below up may = let there : AreOrdered v u = ordered v u up in may_have_more v u a below there.up may
 
+-- a value that may be more goes to more targets, and is whole no sooner
 pub targets_rise : TargetsRise
 targets_rise = record { list = list; whole = whole } where
   list : (image : List ℕ) (v u : Value) (candidates : List ℕ) (asserted : Bool) (a : ℕ) → is_at_most v u ≡ true → Contains (targets image v candidates asserted).list a → Contains (targets image u candidates asserted).list a
@@ -120,6 +123,7 @@ targets_rise = record { list = list; whole = whole } where
       let is = in_list image u candidates a (each a below aligned (more v u a below up may)) in
       is_in_list image v candidates a (record { word = below; candidate = is.candidate; code = is.code; may = may }))
 
+-- there are no more targets than candidates
 pub targets_are_few : TargetsAreFew
 targets_are_few image v candidates asserted =
     length_rising_in (target_list image v candidates) candidates (list_rises image v candidates) (λ a there. (in_list image v candidates a there).candidate)

@@ -117,5 +117,6 @@ one_instruction word i j (Named place row at is) (Unnamed none same) = absurd (n
 one_instruction word i j (Unnamed none is) (Named place row at same) = absurd (none place row at)
 one_instruction word i j (Unnamed none is) (Unnamed also same) = is ∙ sym same
 
+-- each word stands for exactly one instruction
 pub each_word : EachWordStandsForOne
 each_word word = (stands_for word, λ other stands. one_instruction word other (instruction_of word) stands (stands_for word))

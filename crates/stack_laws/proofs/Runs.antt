@@ -111,6 +111,10 @@ module _
           subst (λ (c : Config). IsStepFollowed image list y x (here i) c top below) (sym (next_is i less)) ((leads i less behind).followed top below are);
     }
 
+-- Up to its first open instruction each place of a run is followed. A state stands at each machine without a stub's frame
+-- and covers it; each frame below waits at the delay instruction of its call and keeps the cells that the one that it
+-- called may not write; each step within a frame is an edge, each push a call, and each pop lands behind its call in the
+-- window of its push and goes on along an edge.
 pub runs_followed : RunsAreFollowed
 runs_followed image costs list y x root first rest ask =
     let run = runs_running image costs root first rest ask.bytes ask.begins ask.runs in

@@ -30,9 +30,11 @@ use Rattle.value_lattice.specs.declared.value.Value.TheVariants.{Words, Ret}
 pub top_has : (w ra : ℕ) → w < 2 ^ 32 → Has top w ra
 top_has w ra within = (under_any Ret).words w w within within refl
 
+-- the cells of a machine's frame hold words, and cell 0 holds 0
 pub machines_have_contents : MachinesHaveContents
 machines_have_contents m cwp is = record { words = λ c low. content_word cwp m c is; zero_cell = refl }
 
+-- a state that is at least one that is right about cells and condition codes is right about them
 pub greater_states_say : GreaterStatesSay
 greater_states_say a b ra contents f up are address says =
     record {
@@ -55,6 +57,7 @@ greater_states_say a b ra contents f up are address says =
           subst (λ (v : Value). Has v (contents c) ra) (sym (get_or_past b.cells c top (omega arith))) (top_has (contents c) ra ((are.words) c low)))
     ]
 
+-- a state that is at least one that covers a machine covers it
 pub greater_states_cover : GreaterStatesCover
 greater_states_cover a b depth F m up is address covers =
     record {
@@ -136,6 +139,7 @@ forgets mask (v ∷ vs) ra old new size are none same each (suc k) low =
     by true is = top_has (new (suc k)) ra ((are.words) (suc k) low)
     by false is = subst (λ (x : ℕ). Has (cell_in vs k) x ra) (sym (same (suc k) low is)) (each (suc k) low)
 
+-- a state stays right where what is written to it is written to the cells
 pub writes_say : WritesSay
 writes_say =
     record {
@@ -153,6 +157,7 @@ pub entry_at : (c : ℕ) → c < 48 → cell_at entry_state c ≡ entry_cell c
 unfolding entry_cells
 entry_at c low = get_or-map-range_with_len entry_cell 0 48 c c top low (omega arith)
 
+-- the state of a subprogram's entry is right where r15 holds the return address
 pub entries_say : EntriesSay
 entries_say ra contents f are link address = record { cells = cells; flags = tt } where
   cells : (c : ℕ) → c < 48 → Has (cell_at entry_state c) (contents c) ra
@@ -164,6 +169,7 @@ entries_say ra contents f are link address = record { cells = cells; flags = tt 
     ]
   ])
 
+-- the state of a subprogram's entry covers the first machine of its frame
 pub entries_cover : EntriesCover
 entries_cover F is link =
     let w = is.window in

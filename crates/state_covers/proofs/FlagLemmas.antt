@@ -80,5 +80,6 @@ result cell condition contents f few asks word shows = elim (eqb_tells (conditio
   ]
 ]
 
+-- what a condition over the condition codes says of the cells that a state names
 pub conditions_are_known : ConditionsAreKnown
 conditions_are_known = record { compared = compared; result = result }

@@ -321,6 +321,7 @@ module _ (t : List ℕ) (condition : ℕ) (truth : Bool) (s : State) (ra : ℕ) 
   refined_says (Cmp left right) may means = compared left right may means
   refined_says (Res cell) may means = result cell may means
 
+-- a state that is right is right where a branch takes a direction that the condition codes take
 pub tests_say : TestedStatesSay
 unfolding tested
 tests_say t Always s ra contents f is taken = is.says
@@ -350,6 +351,7 @@ ranges_say t list p (r ∷ rest) s ra contents f is are address each size says =
     then_says (narrowed_to t (range list p.pc r) (cell_of p.depth r) s) (narrowed_by t list p rest) ra contents f now.0 now.1
     (λ at size_at says_at. ranges_say t list p rest at ra contents f is are address (λ k there. each k (later r rest k there)) size_at says_at)
 
+-- a state that is right is right once it is narrowed by what is asserted, where that holds
 pub narrows_say : NarrowedStatesSay
 unfolding narrowed
 narrows_say t list p s ra contents f is keeps =

@@ -233,6 +233,8 @@ covered =
     (covered_on _ load_step Onward Always at_load at_compare _ two refl tt
     (covered_on _ (sets 0 8 (Exactly 4096) None) Onward Always at_entry at_load (Some entry_state) one refl tt entered))))))))
 
+-- ten machines over an accepted file, with a load of a constant, a comparison, an annulling branch that isn't taken and a
+-- branch that is: each step does what the act of its place says, and the state to which the steps lead covers the last
 pub worked_run : WorkedRunIsCovered
 worked_run =
     record {

@@ -109,6 +109,7 @@ one_or_none next place (r ∷ rest) = first (eqb_tells r 0) (eqb_tells (physical
   first (inr some) (inl here) more = inr (record { register = r; some = some.1; among = (0, omega arith, refl); is = here.1 })
   first (inr some) (inr other) more = behind (λ any. other.1) more
 
+-- a step writes no place of the registers but those of the registers that its instruction writes, in the window behind it
 pub places_written : PlacesAreWritten
 places_written image cycles m next i place step is = elim (one_or_none next place (registers_written i)) [
   | inl none ↦ inl (writes_only image cycles m next i step is place none)

@@ -135,6 +135,8 @@ at_agrees image binding eight p m same =
     either (never binding p.pc) _ _ m.pc _ tt
     (there_agrees binding eight p (instruction_at image (behind p.pc 4)) (code_instruction image p.pc) (instruction_at image p.pc) m same (code_is_read image p.pc))
 
+-- what a place does agrees with how the frames of a run read the words: its step is a call, a return, or stays in its
+-- frame, as its way says
 pub acts_agree_with_frames : ActsAgreeWithFrames
 acts_agree_with_frames image binding eight p step way m is same =
     let there : ActAgrees (act_at image binding eight p) m.pc (transfer_of image m) =

@@ -89,6 +89,7 @@ place_shallow image binding eight p h =
 depth_of : (act : Act) (step : Step) (way : Way) → act ≡ Acts step way → IsShallowAct act → step.depth < 2
 depth_of act step way same h = subst IsShallowAct same h
 
+-- the steps of places at depths below 2 lead to such depths
 pub programs_are_lawful : ProgramsAreLawful
 programs_are_lawful image binding eight widest = record {
   depth = λ p step way shallow same.

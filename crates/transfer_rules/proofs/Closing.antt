@@ -249,6 +249,8 @@ module _ (t : List ℕ) (f : Family) (m : Program) (x : Facts) (closed : IsClose
   gap_if : (p : Place) (kind : GapKind) (b : Bool) → b ≡ false → Contains (given_if (not b) (gap p kind ∷ [])) (gap p kind)
   gap_if p kind b none = subst (λ (c : Bool). Contains (given_if (not c) (gap p kind ∷ [])) (gap p kind)) (sym none) (0, omega arith, refl)
 
+-- a closed state has what is said beside an instruction, the program points of the same subprogram behind it, and the
+-- entries of what it calls
 pub closed_has_three : ClosedHasThree
 closed_has_three = record {
   beside = λ t f m x p step way before after closed is k v has. has_beside t f m x closed p step way before after is (k, v) has;
@@ -256,6 +258,8 @@ closed_has_three = record {
   entered = λ t f m x p step way before after closed is k v has. has_entered t f m x closed p step way before after is (k, v) has;
 }
 
+-- in a closed state an instruction leads on: to where control was to go, in the directions of a branch that are open, and
+-- to the delay instruction of a call, a jump or a return
 pub closed_leads_on : ClosedLeadsOn
 closed_leads_on = record {
   onward = λ t f m x p n step before after closed is same. goes_onward t f m x closed p step before after is n same;
@@ -282,6 +286,8 @@ closed_leads_on = record {
         (λ piece has. has_here t f m x closed p step (Forks other (Some exit)) before after is piece
         (Contains-append_right (exits f p other after) (exits f p (Some exit) after) piece (takes_exit t f m x closed p exit after s left piece has)))
 
+-- a closed state has a gap where an instruction isn't followed, where the targets aren't all known, where a return may go
+-- elsewhere, and where one is made in the window behind a SAVE
 pub closed_has_gaps : ClosedHasGaps
 closed_has_gaps = record {
   unfollowed = λ t f m x p kind before closed is acts.
@@ -298,6 +304,8 @@ closed_has_gaps = record {
   deep = λ t f m x p step before after closed is same deep. too_deep t f m x closed p step before after is same deep;
 }
 
+-- in a closed state the delay instruction of a call makes the call, enters what is called unless that is a stub, and
+-- comes back from it where it returns or skips a word
 pub closed_calls : ClosedCalls
 closed_calls = record {
   call = λ t f m x p target step before after closed is same. makes_call t f m x closed p step before after is target same;
@@ -307,6 +315,7 @@ closed_calls = record {
   skips = λ t f m x p target step before after there closed is same found skips. skips_word t f m x closed p step before after is target there same found skips;
 }
 
+-- a closed state says of each subprogram what its instructions write, what its calls may write, and how it comes back
 pub closed_says : ClosedSays
 closed_says = record {
   writes = λ t f m x p step way before closed is acts.
@@ -316,6 +325,7 @@ closed_says = record {
   back = λ t f m x p step before after closed is same flat. goes_back t f m x closed p step before after is same flat;
 }
 
+-- a closed state has the entries of the roots, and what the stubs may do
 pub closed_starts : ClosedStarts
 closed_starts = record { roots = roots; stubs = stubs } where
   roots : (t : List ℕ) (f : Family) (m : Program) (x : Facts) (root : ℕ) → IsClosed (rules_of t f m) x → Contains m.roots root → HasState x (entry_of root) entry_state

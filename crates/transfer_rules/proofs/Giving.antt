@@ -38,6 +38,7 @@ use Rattle.transfer_rules.specs.declared.step.Step.{Step}
 none_given : (j : Key) (v : Fact) → Contains {X = Piece} [] (j, v) → ⊥
 none_given j v has = let below = has.1 in omega arith
 
+-- only a program point gives anything
 pub only_places_give : OnlyPlacesGive
 only_places_give f m (key.Node p) j v x has = (p, refl)
 only_places_give f m (key.Edge p q) j v x has = absurd (none_given j v has)
@@ -193,6 +194,8 @@ all_edged f m p x =
     one_of (λ piece. Edged p ((key.Node (entry_of t), fact.State s) ∷ []) piece.0) (key.Node (entry_of t), fact.State s)
     (inr (record { callee = t; calls = is; entry = refl }))) f x
 
+-- a program point gives an edge to each one that it gives, but to the entry of what it calls; and an edge begins at the
+-- point that gives it, and leads to one of the same subprogram that it gives too
 pub places_have_edges : PlacesHaveEdges
 places_have_edges = record { edges = edges; places = places } where
   edges : (f : Family) (m : Program) (p q : Place) (v : Fact) (x : Facts) → Contains (gives f m (key.Node p) x) (key.Node q, v)
@@ -208,6 +211,7 @@ places_have_edges = record { edges = edges; places = places } where
 abbrev IsTheirs : Place → Key → Type 0
 IsTheirs p k = (sub_of k ≡ p.sub) ⊎ ((t : ℕ) × (p.next ≡ Into t) × (k ≡ key.Node (entry_of t)))
 
+-- what a program point gives speaks of its subprogram, but for the entry of what it calls
 pub places_speak_of_theirs : PlacesSpeakOfTheirs
 places_speak_of_theirs f m p k v x has =
     All-contains (λ piece. IsTheirs p piece.0) (gives f m (key.Node p) x) (k, v)
@@ -228,6 +232,7 @@ handed_none (Words words) = refl
 handed_none (Range lo hi) = refl
 handed_none Ret = refl
 
+-- no argument is handed on as the return address, which is that of one frame alone
 pub arguments_are_no_return_address : ArgumentsAreNoReturnAddress
 arguments_are_no_return_address f m p from t list x has =
     All-contains (λ piece. HandsNone piece.0 piece.1) (gives f m (key.Node p) x) (key.Call from t, fact.Args list)
@@ -261,6 +266,7 @@ module _ (P : Piece → Type 0) where
       (λ s found. all_of (f.narrow p s) (act_gives f m p (m.act p) (callee_of p.next x))
       (λ u left. subst (λ (a : Act). All P (act_gives f m p a (callee_of p.next x) u)) (sym is) (are (callee_of p.next x) u)))
 
+-- a program point whose instruction isn't followed gives that gap alone, and one where control doesn't come gives nothing
 pub gaps_are_ends : GapsAreEnds
 gaps_are_ends = record { unfollowed = opened; unreached = nothing } where
   opened : (f : Family) (m : Program) (p : Place) (kind : GapKind) (k : Key) (v : Fact) (x : Facts) → m.act p ≡ Open kind → Contains (gives f m (key.Node p) x) (k, v)
@@ -285,6 +291,8 @@ LeadsOut p first second (key.Call q t) = Unit {0}
 LeadsOut p first second (key.Summary sub) = Unit {0}
 LeadsOut p first second (key.Gap sub pc kind) = Unit {0}
 
+-- A branch leads to where its directions lead, and nowhere else. So an annulling branch that is untaken, whose direction
+-- is to the address behind the delay instruction, never leads to its delay instruction.
 pub branches_lead_to_exits : BranchesLeadToExits
 branches_lead_to_exits f m p q step first second v x is has =
     All-contains (λ piece. LeadsOut p first second piece.0) (gives f m (key.Node p) x) (key.Node q, v)
@@ -320,6 +328,7 @@ EntersDelay p (key.Call q t) = Unit {0}
 EntersDelay p (key.Summary sub) = Unit {0}
 EntersDelay p (key.Gap sub pc kind) = Unit {0}
 
+-- a call leads to its delay instruction, with a target that isn't the address behind that
 pub calls_enter_delays : CallsEnterDelays
 calls_enter_delays f m p q step aim v x is has =
     All-contains (λ piece. EntersDelay p piece.0) (gives f m (key.Node p) x) (key.Node q, v) (by_act (λ piece. EntersDelay p piece.0) f m p x (Acts step (CallsTo aim)) is act) has
@@ -371,6 +380,8 @@ IsBehind f p step there before _ _ = Unit {0}
 abbrev Behind : Family → Place → Step → Effects → State → Piece → Type 0
 Behind f p step there before piece = IsBehind f p step there before piece.0 piece.1
 
+-- behind a call each cell that the callee may not write is what the delay instruction left, and nothing is known of the
+-- condition codes
 pub calls_keep_the_rest : CallsKeepTheRest
 calls_keep_the_rest f m p q t step there before u x next act found callee has =
     All-contains (Behind f p step there before) (gives f m (key.Node p) x) (key.Node q, fact.State u) given has
@@ -442,12 +453,14 @@ stub_at depth r is from =
     and_true (has_cell (after_call effects_of_stub.written depth) (cell_of depth r))
     (subst (λ (c : Bool). (has_cell (after_call effects_of_stub.written depth) (cell_of depth r) && not c) ≡ false) (le-ltb r 16 from) is)
 
+-- a call of a stub keeps the local and the in registers of the window in which it is made
 pub stubs_keep_locals : StubsKeepLocals
 unfolding stub_test
 stubs_keep_locals zero r low from to = stub_at 0 r (agree_below_at (stub_test 0) (λ n. false) 32 r refl to) from
 stubs_keep_locals (suc zero) r low from to = stub_at 1 r (agree_below_at (stub_test 1) (λ n. false) 32 r refl to) from
 stubs_keep_locals (suc (suc n)) r low from to = absurd (omega arith)
 
+-- what a step writes is said of its subprogram, also where no run goes on
 pub writes_are_said : WritesAreSaid
 writes_are_said f m p step way before allowed x act found left =
     let piece : Piece = (key.Summary p.sub, fact.Sum (record { returns = false; skips = false; written = mask_of step })) in

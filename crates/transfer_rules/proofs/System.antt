@@ -46,6 +46,8 @@ below_in : (t more : List ℕ) (f g : Family) (m : Program) (coarse : IsLawfulFa
     → ((k : Key) (v : Fact) → x k ≡ Some v → ContainsPiece (rules_of t f m) y k v) → rising.IsBelow t more m up f g coarse fine law x y
 below_in t more f g m coarse fine law up x y below = record { fact = λ k v is. let c = below k v is in (c.fact, c.found, c.above) }
 
+-- over functions that keep what a family has to keep, the rules of a program are a lawful system: what a key gives fits,
+-- is short and over lesser facts no more, and looks only at what is read; facts are ordered and joined, and have ranks
 pub rules_are_lawful : RulesAreLawful
 rules_are_lawful t f m family finer program =
     record { keys = keys; fit = fit; order = order; least = least; monotone = monotone; looks = looks; limits = limits }
@@ -123,6 +125,7 @@ pub fit_stays : (t more : List ℕ) (k : Key) (v : Fact) → AreMore t more → 
 fit_stays t more k v are is =
     let a = fitting t k v is in from_fitting more k v (record { kind = a.kind; depths = a.depths; over = fact_stays t more v are a.over })
 
+-- over more thresholds the same rules make a finer system: what fits still fits, and each key gives no more
 pub more_thresholds_are_finer : MoreThresholdsAreFiner
 more_thresholds_are_finer t more f g m coarse fine law program =
     record { fits = λ k v is. fit_stays t more k v law.thresholds is; order = λ v w up. up; starts = begins; gives = given }

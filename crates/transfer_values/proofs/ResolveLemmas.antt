@@ -131,6 +131,8 @@ resolved_few t image list pc (Fixed to) s = omega arith
 resolved_few t image list pc (Computed left right kind) s =
     among_few image (apply t Add (operand s left) (operand s right)) list pc kind (listed list pc) refl
 
+-- a lesser state goes to fewer targets, and is known sooner to go nowhere else; no transfer has more targets than the
+-- widest one
 pub targets_fall : TargetsFall
 targets_fall = record { list = resolved_fewer; whole = resolved_whole; few = resolved_few }
 

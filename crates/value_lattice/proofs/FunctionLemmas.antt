@@ -122,6 +122,7 @@ join_is_join t Ret Ret is a b = record {
   least = λ u over left right. left;
 }
 
+-- `cover`, `span` and `join` as functions of the thresholds and their arguments are the least values
 pub functions_are_least : FunctionsAreLeast
 functions_are_least = record {
   cover = cover_is_least;

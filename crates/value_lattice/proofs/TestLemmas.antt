@@ -162,6 +162,8 @@ top_fits = (record { sfits = omega arith }, record { sfits = omega arith }, omeg
 pub under_any : (a : Value) → AtMost a (Range (negsuc 2147483647) (pos 2147483647))
 under_any a = record { words = λ w ra word address has. let below : place_of w < 2 ^ 32 = place_of_below w in (omega arith, omega arith) }
 
+-- the order as a test: values are at most themselves and any word, it goes on from one to the next, values that are at
+-- most each other are the same, and what is at most the word 0 is the word 0
 pub the_order_is_one : TheOrderIsOne
 the_order_is_one = record {
   same = λ a value. let is : IsValue a = (value_decides a).0 value in at_most_from a a is is (record { words = λ w ra word address has. has });

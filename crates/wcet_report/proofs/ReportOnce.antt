@@ -154,6 +154,7 @@ parts_once image (o ∷ os) (p ∷ ps) (q ∷ qs) apart each also =
     parts_once image os ps qs (All-tail (λ outcome. AreApart (λ a b. a.head ≡ b.head) outcome.loops) o os apart) each.1 also.1 in
     cc (one, rest)
 
+-- outcomes have at most one report
 pub report_is_one : ReportIsOne
 report_is_one image outcomes one other proper report also =
     let order : report.ordered ≡ also.ordered = order_once outcomes report.ordered also.ordered proper report.order also.order in

@@ -327,6 +327,7 @@ report_clean image outcomes text proper report = (
       (all_clean image report.ordered report.parts report.each (good_ordered image outcomes text proper report)),
 )
 
+-- what a report is of can be read back from it: the roots, and each outcome
 pub report_tells : ReportTells
 unfolding report_lines lines_behind
 report_tells image one other text proper also report another =

@@ -83,12 +83,14 @@ within_report image outcomes text outcome line report has of_lines =
     within_part {line} {part} {text} inner outer =
         subst (λ t. HasWithin line t) (sym outer.is) (longer line part outer.before outer.after inner)
 
+-- the line of the context of each outcome stands in the report
 pub report_has_each : ReportHasEach
 report_has_each image outcomes text outcome report has =
     within_report image outcomes text outcome (context_line image outcome) report has
     (λ part lines. subst (λ t. HasWithin (context_line image outcome) t) (sym lines.is)
     (itself (context_line image outcome) (flat_map loop_line lines.loops ++ flat_map (reason_line image) outcome.reasons)))
 
+-- the line of each loop of each outcome stands in the report
 pub report_has_loops : ReportHasLoops
 report_has_loops image outcomes text outcome each report has among =
     within_report image outcomes text outcome (loop_line each) report has
@@ -96,6 +98,7 @@ report_has_loops image outcomes text outcome each report has among =
     (longer (loop_line each) (flat_map loop_line lines.loops) (context_line image outcome) (flat_map (reason_line image) outcome.reasons)
     (in_list loop_line lines.loops each (Contains-permutation outcome.loops lines.loops each lines.by_head.same among))))
 
+-- the line of each reason of each outcome stands in the report
 pub report_has_reasons : ReportHasReasons
 report_has_reasons image outcomes text outcome reason report has among =
     within_report image outcomes text outcome (reason_line image reason) report has
@@ -104,6 +107,7 @@ report_has_reasons image outcomes text outcome reason report has among =
     (behind (reason_line image reason) (flat_map (reason_line image) outcome.reasons) (flat_map loop_line lines.loops)
     (in_list (reason_line image) outcome.reasons reason among))))
 
+-- the line of each root stands in the report
 pub report_has_roots : ReportHasRoots
 report_has_roots image outcomes text root report among =
     subst (λ t. HasWithin (root_line image outcomes.list root) t) (sym report.is)
