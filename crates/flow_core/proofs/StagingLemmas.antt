@@ -111,7 +111,7 @@ module _ {K V : Type 0} (cmp : K → K → Ordering) (m : Rules K V) (law : IsLa
       → fact_at cmp copies k ≡ fact_at cmp facts k
   both_ways facts copies k a b ff fc ea eb up down = sym ea ∙ ap Some (law.order.both k a b (fc k a (sym ea)) (ff k b (sym eb)) up down) ∙ eb
 
-  -- copies that aren't at most the facts aren't these
+  -- a copy that is the fact is at most it, and it is at most the copy
   pub not_at_most : (facts copies : List (K × V)) (k : K) (a b : V) → AllFit m (fact_at cmp facts) → Some a ≡ fact_at cmp copies k
       → Some b ≡ fact_at cmp facts k → fact_at cmp copies k ≡ fact_at cmp facts k → (m.at_most a b ≡ false) ⊎ (m.at_most b a ≡ false) → ⊥
   not_at_most facts copies k a b ff ea eb same some_fails =

@@ -191,7 +191,7 @@ module _ {K : Type 0} (cmp : K → K → Ordering) where
       (Contains-push_cases (take i items) r q (subst (λ list. Contains list q) (next_of items i r within is) listed))
 
   module _ {V : Type 0} where
-    -- one key more has its mark, and its readers stand in the index
+    -- one key more is ready in the later marks and readers
     pub ready_more : (reads : K → List K) (facts : List (K × V)) (ks : List K) (i : ℕ) (k : K) (marks marks' : List (K × Bool))
         (readers readers' : List (K × List K)) → i < length ks → k ≡ get_or ks i k
         → ((q : K) → Contains (take i ks) q → IsReady cmp reads facts marks readers q) → KeepsMarks cmp marks marks' → KeepsReaders cmp reads readers readers'
@@ -285,7 +285,7 @@ module _ {K : Type 0} (cmp : K → K → Ordering) where
       rise = bc.rise;
     }
 
-    -- one key more of the risen ones that are moved has a fact
+    -- one key more that still is among the risen has a fact
     pub there_more : (ks : List K) (i : ℕ) (k : K) (f r f' r' : List (K × V)) → i < length ks → k ≡ get_or ks i k
         → ((q : K) → Contains (take i ks) q → IsSome (fact_at cmp r q) → IsSome (fact_at cmp f q)) → IsMoving cmp f r f' r'
         → (IsSome (fact_at cmp r' k) → IsSome (fact_at cmp f' k)) → (q : K) → Contains (take (i + 1) ks) q → IsSome (fact_at cmp r' q)
