@@ -180,10 +180,12 @@ context_words_tell (With vs) (With ws) t u at_a at_b long also first second same
     let both : (vs ≡ ws) × (t ≡ u) = rests_tell vs ws t u at_a at_b long also first.is second.is (ap words_behind same) in
     (ap With both.0, both.1)
 
+-- the word `any` is no argument
 pub no_argument_any : NoArgument (codes "any" ∷ [])
 unfolding first_word rank
 no_argument_any = record { is = omega arith }
 
+-- the words of a bound are no argument
 pub no_argument_bound : (bound : Option ℕ) → NoArgument (bound_words bound)
 unfolding first_word rank
 no_argument_bound None = record { is = omega arith }

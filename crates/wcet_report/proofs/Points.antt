@@ -81,6 +81,7 @@ pub record NoPoint (stops : ℕ → Bool) : Type 0 where
   pub angle : Lacks stops (codes ">")
   pub slash : Lacks stops (codes "/")
 
+-- the one or the other has nothing that ends a word
 pub lacks_either : (stops : ℕ → Bool) (b : Bool) (xs ys : List ℕ) → Lacks stops xs → Lacks stops ys → Lacks stops (if b then xs else ys)
 lacks_either stops true xs ys one other = one
 lacks_either stops false xs ys one other = other

@@ -24,6 +24,7 @@ longer part text front back has = record {
 in_front : (part text back : List ℕ) → HasWithin part text → HasWithin part (text ++ back)
 in_front part text back has = longer part text [] back has
 
+-- what stands in a text stands in it behind another
 pub behind : (part text front : List ℕ) → HasWithin part text → HasWithin part (front ++ text)
 behind part text front has = record {
   before = front ++ has.before;
@@ -31,6 +32,7 @@ behind part text front has = record {
   is = ap (λ t. front ++ t) has.is ∙ sym (append_assoc front has.before (part ++ has.after));
 }
 
+-- a text stands at the front of itself
 pub itself : (text back : List ℕ) → HasWithin text (text ++ back)
 itself text back = record { before = []; after = back; is = refl }
 
