@@ -212,6 +212,7 @@ module _ (t : List ℕ) where
         by (Some v) over = at v (over v refl)
       callee_fits Back x fit = refl
 
+      -- what a key gives fits
       pub gives_fit : (x : Facts) → ((k : Key) (v : Fact) → x k ≡ Some v → fits t k v ≡ true) → (k : Key) → AreFit (gives f m k x)
       gives_fit x fit (key.Node p) = by (x (key.Node p)) (λ v is. fit (key.Node p) v is) where
         at : (v : Fact) → fits t (key.Node p) v ≡ true → AreFit (pieces_of (state_in (Some v)) (node_gives f m p (callee_of p.next x)))

@@ -125,6 +125,7 @@ module _ (t : List ℕ) (m : Program) (f : Family) (family : IsLawfulFamily t m.
       (pieces_of (f.step step s) (here f p step way c s) ++ pieces_of (f.step step s) (entered m p step way)) in
       omega arith
 
+  -- what a key gives is short
   pub gives_short : (x : Facts) → ((k : Key) (v : Fact) → x k ≡ Some v → fits t k v ≡ true) → (k : Key) → length (gives f m k x) ≤ most m
   gives_short x fit (key.Node p) = by (x (key.Node p)) (fit (key.Node p)) where
     node : (c : Option Effects) (s : State) → is_state_over t s ≡ true → length (node_gives f m p c s) ≤ most m
@@ -142,6 +143,7 @@ module _ (t : List ℕ) (m : Program) (f : Family) (family : IsLawfulFamily t m.
   gives_short x fit (key.Summary sub) = omega arith
   gives_short x fit (key.Gap sub pc kind) = omega arith
 
+-- what a key reads is short
 pub reads_short : (m : Program) (k : Key) → length (reads k) ≤ most m
 reads_short m (key.Node p) = by p.next where
   by : (next : Next) → length (key.Node p ∷ callee_key next) ≤ most m

@@ -121,6 +121,7 @@ fact_stays t more (fact.Args list) are over =
 fact_stays t more (fact.Sum e) are over = over
 fact_stays t more fact.Mark are over = over
 
+-- what fits over some thresholds fits over more
 pub fit_stays : (t more : List ℕ) (k : Key) (v : Fact) → AreMore t more → fits t k v ≡ true → fits more k v ≡ true
 fit_stays t more k v are is =
     let a = fitting t k v is in from_fitting more k v (record { kind = a.kind; depths = a.depths; over = fact_stays t more v are a.over })

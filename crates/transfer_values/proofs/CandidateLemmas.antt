@@ -218,6 +218,7 @@ module _ (image : List ℕ) (pc low high : ℕ) (is : IsExtent image pc low high
               (λ there. absurd (parted_first pc a high (apart a high near there) is.around.1 more)) is.ends
         ]
 
+  -- the labels between the ends of an extent are those near its address
   pub labels_are : (xs : List ℕ) → is_code image pc ≡ true → All (λ a. a < 2 ^ 32) xs → Rise xs → All (IsLabelWithin image low high) xs
       → ((a : ℕ) → IsLabelWithin image low high a → Contains xs a) → xs ≡ labels_near image pc
   unfolding labels_near is_near
@@ -240,6 +241,7 @@ empty_list : (xs : List ℕ) → ((a : ℕ) → Contains xs a → ⊥) → [] �
 empty_list [] none = refl
 empty_list (x ∷ xs) none = absurd (none x (first_there x xs))
 
+-- an address that is no code has no labels near it
 pub no_labels : (image : List ℕ) (pc : ℕ) → is_code image pc ≡ false → [] ≡ labels_near image pc
 unfolding labels_near is_near
 no_labels image pc none =

@@ -146,6 +146,7 @@ resolved_listed t image list pc aim left right kind s v to is value there =
     ∙ ap (λ (o : Option (List ℕ)). targets_among image (apply t Add (operand s left) (operand s right)) o (candidates image pc kind)) there
     ∙ ap (λ (x : Aim). resolved t image list pc x s) (sym is)
 
+-- where no assertion lists them, the targets are among the candidates
 pub resolved_others : (t image : List ℕ) (list : List BoundAssertion) (pc : ℕ) (aim : Aim) (left right : Right) (kind : Candidates) (s : State) (v : Value) (others : List ℕ)
     → aim ≡ Computed left right kind → v ≡ apply t Add (operand s left) (operand s right) → None ≡ listed list pc → others ≡ candidates image pc kind
     → targets image v others false ≡ resolved t image list pc aim s
@@ -156,6 +157,7 @@ resolved_others t image list pc aim left right kind s v others is value none are
     ∙ ap (λ (o : Option (List ℕ)). targets_among image (apply t Add (operand s left) (operand s right)) o (candidates image pc kind)) none
     ∙ ap (λ (x : Aim). resolved t image list pc x s) (sym is)
 
+-- a fixed target is the one target
 pub resolved_fixed : (t image : List ℕ) (list : List BoundAssertion) (pc a : ℕ) (aim : Aim) (s : State) → aim ≡ Fixed a
     → record { list = a ∷ []; whole = true } ≡ resolved t image list pc aim s
 unfolding resolved

@@ -39,6 +39,7 @@ pub operand_over : (t : List ℕ) (s : State) (r : Right) → IsThresholds t →
 operand_over t s (Cell c) is fits = cell_over t s c is fits
 operand_over t s (Word n) is fits = word_over t n
 
+-- a greater state has greater operands
 pub operand_up : (t : List ℕ) (a b : State) (r : Right) → IsThresholds t → is_state_at_most a b ≡ true → is_at_most (operand a r) (operand b r) ≡ true
 operand_up t a b (Cell c) is up = cell_up t a b c is up
 operand_up t a b (Word n) is up = same_value t (Words (word_of n ∷ [])) (word_over t n)
@@ -102,6 +103,7 @@ read_by image rest words b a (Some w) (Some ws) here more is there =
           record { read = r.read; stands = r.stands; there = subst (λ (xs : List ℕ). Contains xs (word_of r.read)) same (later (word_of w) ws (word_of r.read) r.there) })
     ]
 
+-- words that are found at addresses are read there
 pub are_read : (image addresses words : List ℕ) → words_at image addresses ≡ Some words → (a : ℕ) → Contains addresses a → IsRead image words a
 are_read image [] words are a there = absurd (omega (arith, there.1))
 are_read image (b ∷ rest) words are a there =
@@ -115,6 +117,7 @@ pub record AreReadIn (image addresses words : List ℕ) : Type 0 where
   pub fit : (w : ℕ) → Contains read w → w < 2 ^ 32
   pub many : length read ≡ length addresses
 
+-- words that are read at each address are those of all
 pub read_in : (image addresses words : List ℕ) → ((a : ℕ) → Contains addresses a → IsRead image words a) → AreReadIn image addresses words
 read_in image [] words each = record { read = []; are = refl; among = λ w there. absurd (omega (arith, there.1)); fit = λ w there. absurd (omega (arith, there.1)); many = refl }
 read_in image (b ∷ rest) words each =
@@ -167,6 +170,7 @@ less_than_top : (t : List ℕ) (r : Option Value) → is_over_or_none t r ≡ tr
 less_than_top t None over = refl
 less_than_top t (Some v) over = under_top t v over
 
+-- an ordered value has its words inside the other
 pub inside : (a b : Value) → is_at_most a b ≡ true → is_inside a b ≡ true
 unfolding is_at_most
 inside a b up = (and_parts (is_value b) (is_inside a b) (and_parts (is_value a) (is_value b && is_inside a b) up).1).1
@@ -199,6 +203,7 @@ source_over t image s (Ranged lo hi) is fits = by_test (int_le lo hi) where
 source_over t image s (Applied op left right) is fits = apply_over t op (operand s left) (operand s right) is (operand_over t s left is fits) (operand_over t s right is fits)
 source_over t image s (Loaded left right) is fits = loaded_over t image (apply t Add (operand s left) (operand s right)) is
 
+-- of a lesser state, over more thresholds, less is written
 pub source_falls : (t more image : List ℕ) (a b : State) (source : Source) → IsThresholds t → IsThresholds more → AreMore t more
     → is_state_over more a ≡ true → is_state_over t b ≡ true → is_state_at_most a b ≡ true
     → is_less (source_value more image a source) (source_value t image b source) ≡ true

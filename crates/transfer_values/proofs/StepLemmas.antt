@@ -237,12 +237,14 @@ both_over t image step s is fits =
     then_over t (written t image s step.first s) (written t image s step.second) (written_over t image s step.first s is fits fits)
     (λ u made over. written_over t image s step.second u is fits over)
 
+-- what a step leaves may stand where the state may
 pub stepped_over : (t image : List ℕ) (step : Step) (s : State) → IsThresholds t → is_state_over t s ≡ true → is_left_over t (stepped t image step s) ≡ true
 unfolding stepped
 stepped_over t image step s is fits =
     mapped_over t (option_and_then (written t image s step.second) (written t image s step.first s)) (flagged step.flags) (both_over t image step s is fits)
     (λ u over. flagged_over t step.flags u is over)
 
+-- of a lesser state, over more thresholds, a step leaves less
 pub stepped_falls : (t more image : List ℕ) (step : Step) (a b : State) → IsThresholds t → IsThresholds more → AreMore t more
     → is_state_over more a ≡ true → is_state_over t b ≡ true → is_at_most a b ≡ true → is_less (stepped more image step a) (stepped t image step b) ≡ true
 unfolding stepped

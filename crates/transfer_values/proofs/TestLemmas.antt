@@ -73,6 +73,7 @@ module _ (t : List ℕ) (condition : ℕ) (truth : Bool) (is : IsThresholds t) w
         (refine_address t condition truth (cell_at s cell) (Words (0 ∷ [])) (words_named s.cells cell may))
     by_test false = fits
 
+-- what a direction of a branch leaves may stand where the state may
 pub tested_over : (t : List ℕ) (test : Test) (s : State) → IsThresholds t → is_state_over t s ≡ true → is_left_over t (tested t test s) ≡ true
 unfolding tested
 tested_over t Always s is fits = fits
@@ -147,6 +148,7 @@ module _ (t more : List ℕ) (condition : ℕ) (truth : Bool) (a b : State) (is 
         (cell_up t a b cell is up))
     by_test false = up
 
+-- of a lesser state, over more thresholds, a direction of a branch leaves less
 pub tested_falls : (t more : List ℕ) (test : Test) (a b : State) → IsThresholds t → IsThresholds more → AreMore t more
     → is_state_over more a ≡ true → is_state_over t b ≡ true → is_at_most a b ≡ true → is_less (tested more test a) (tested t test b) ≡ true
 unfolding tested
@@ -167,6 +169,7 @@ pub always_is : (t : List ℕ) (test : Test) (s : State) → test ≡ Always →
 unfolding tested
 always_is t test s is = ap (λ (x : Test). tested t x s) (sym is)
 
+-- a tested direction is refined by its condition and the flags
 pub when_is : (t : List ℕ) (test : Test) (condition : ℕ) (truth : Bool) (s : State) → test ≡ When condition truth
     → refined t (condition % 16) truth s s.flags ≡ tested t test s
 unfolding tested
