@@ -22,6 +22,7 @@ use Rattle.abs_state.specs.State.{cell_in, joined_cells, with_value, forgotten, 
 pub over_all : (t : List ℕ) (vs : List Value) → Decides (list_all (is_over t) vs) (All (IsOver t) vs)
 over_all t vs = Decides-by_and (is_over t) (IsOver t) (list_all (is_over t)) (over_decides t) refl (λ x xs. refl) vs
 
+-- cells over thresholds are values
 pub values_of : (t : List ℕ) (vs : List Value) → All (IsOver t) vs → All IsValue vs
 values_of t vs over = All-weaker (IsOver t) IsValue (λ v is. is.value) vs over
 
@@ -32,6 +33,7 @@ cells_same t (v ∷ vs) over =
     let parts = and_parts (is_over t v) (list_all (is_over t) vs) over in
     and_from (is_at_most v v) (are_at_most vs vs) (the_order_is_one.same v (is_over-value t v parts.0)) (cells_same t vs parts.1)
 
+-- the order of cells goes on from one list to the next
 pub cells_onward : (vs us ws : List Value) → are_at_most vs us ≡ true → are_at_most us ws ≡ true → are_at_most vs ws ≡ true
 cells_onward [] [] [] one two = refl
 cells_onward [] [] (w ∷ ws) one two = absurd (false≢true two)
@@ -50,6 +52,7 @@ cells_at (v ∷ vs) [] c up below = absurd (false≢true up)
 cells_at (v ∷ vs) (u ∷ us) zero up below = (and_parts (is_at_most v u) (are_at_most vs us) up).0
 cells_at (v ∷ vs) (u ∷ us) (suc c) up below = cells_at vs us c ((and_parts (is_at_most v u) (are_at_most vs us) up).1) (omega arith)
 
+-- ordered cells are as many
 pub cells_length : (vs us : List Value) → are_at_most vs us ≡ true → length vs ≡ length us
 cells_length [] [] up = refl
 cells_length [] (u ∷ us) up = absurd (false≢true up)
@@ -72,12 +75,14 @@ joined-length t [] us e = refl
 joined-length t (v ∷ vs) [] e = absurd (omega arith)
 joined-length t (v ∷ vs) (u ∷ us) e = let same : length vs ≡ length us = omega arith in let rest = joined-length t vs us same in omega arith
 
+-- a joined cell is the join of the two
 pub joined-at : (t : List ℕ) (vs us : List Value) (c : ℕ) → length vs ≡ length us → c < length vs → cell_in (joined_cells t vs us) c ≡ join t (cell_in vs c) (cell_in us c)
 joined-at t [] us c e below = absurd (omega arith)
 joined-at t (v ∷ vs) [] c e below = absurd (omega arith)
 joined-at t (v ∷ vs) (u ∷ us) zero e below = refl
 joined-at t (v ∷ vs) (u ∷ us) (suc c) e below = joined-at t vs us c (omega arith) (omega arith)
 
+-- joined cells are over the thresholds, by the tests
 pub joined_over : (t : List ℕ) (vs us : List Value) → IsThresholds t → list_all (is_over t) vs ≡ true → list_all (is_over t) us ≡ true → list_all (is_over t) (joined_cells t vs us) ≡ true
 joined_over t [] us is left right = refl
 joined_over t (v ∷ vs) [] is left right = refl
@@ -86,9 +91,11 @@ joined_over t (v ∷ vs) (u ∷ us) is left right =
     let b = and_parts (is_over t u) (list_all (is_over t) us) right in
     and_from (is_over t (join t v u)) (list_all (is_over t) (joined_cells t vs us)) (join_over t v u is a.0 b.0) (joined_over t vs us is a.1 b.1)
 
+-- joined cells are over the thresholds
 pub joined_all : (t : List ℕ) (vs us : List Value) → IsThresholds t → All (IsOver t) vs → All (IsOver t) us → All (IsOver t) (joined_cells t vs us)
 joined_all t vs us is left right = (over_all t (joined_cells t vs us)).0 (joined_over t vs us is ((over_all t vs).1 left) ((over_all t us).1 right))
 
+-- the first cells are at most the joined ones
 pub cells_first : (t : List ℕ) (vs us : List Value) → IsThresholds t → length vs ≡ length us → list_all (is_over t) vs ≡ true → list_all (is_over t) us ≡ true → are_at_most vs (joined_cells t vs us) ≡ true
 cells_first t [] us is e left right = refl
 cells_first t (v ∷ vs) [] is e left right = absurd (omega arith)
@@ -97,6 +104,7 @@ cells_first t (v ∷ vs) (u ∷ us) is e left right =
     let b = and_parts (is_over t u) (list_all (is_over t) us) right in
     and_from (is_at_most v (join t v u)) (are_at_most vs (joined_cells t vs us)) (join_left t v u is a.0 b.0) (cells_first t vs us is (omega arith) a.1 b.1)
 
+-- the second cells are at most the joined ones
 pub cells_second : (t : List ℕ) (vs us : List Value) → IsThresholds t → length vs ≡ length us → list_all (is_over t) vs ≡ true → list_all (is_over t) us ≡ true → are_at_most us (joined_cells t vs us) ≡ true
 cells_second t [] [] is e left right = refl
 cells_second t [] (u ∷ us) is e left right = absurd (omega arith)
@@ -106,6 +114,7 @@ cells_second t (v ∷ vs) (u ∷ us) is e left right =
     let b = and_parts (is_over t u) (list_all (is_over t) us) right in
     and_from (is_at_most u (join t v u)) (are_at_most us (joined_cells t vs us)) (join_right t v u is a.0 b.0) (cells_second t vs us is (omega arith) a.1 b.1)
 
+-- joined cells are at most what both are at most
 pub cells_least : (t : List ℕ) (vs us ws : List Value) → IsThresholds t → list_all (is_over t) vs ≡ true → list_all (is_over t) us ≡ true → list_all (is_over t) ws ≡ true → are_at_most vs ws ≡ true → are_at_most us ws ≡ true → are_at_most (joined_cells t vs us) ws ≡ true
 cells_least t [] us ws is left right most one two = one
 cells_least t (v ∷ vs) [] [] is left right most one two = refl
@@ -127,6 +136,7 @@ forgotten-length mask (v ∷ vs) = (let rest = from 1 vs in omega arith) where
   from c [] = refl
   from c (u ∷ us) = let rest = from (c + 1) us in omega arith
 
+-- what holds of any word and of the cells holds of forgotten ones
 pub forgotten_all : (P : Value → Type 0) (mask : ℕ) (cells : List Value) → P top → All P cells → All P (forgotten mask cells)
 forgotten_all P mask [] any all = all
 forgotten_all P mask (v ∷ vs) any all = All-cons P v (forgotten_from mask 1 vs) (All-head P v vs all) (from 1 vs (All-tail P v vs all)) where
@@ -139,6 +149,7 @@ forgotten_all P mask (v ∷ vs) any all = All-cons P v (forgotten_from mask 1 vs
   from c (u ∷ us) each =
       All-cons P (if has_cell mask c then top else u) (forgotten_from mask (c + 1) us) (chosen (has_cell mask c) u (All-head P u us each)) (from (c + 1) us (All-tail P u us each))
 
+-- cells that are forgotten of greater ones are greater
 pub forgotten_up : (t more : List ℕ) (m n : ℕ) (vs us : List Value) → is_within m n ≡ true → list_all (is_over more) vs ≡ true → list_all (is_over t) us ≡ true → is_at_most top top ≡ true → are_at_most vs us ≡ true → are_at_most (forgotten m vs) (forgotten n us) ≡ true
 forgotten_up t more m n [] [] within left right any up = refl
 forgotten_up t more m n [] (u ∷ us) within left right any up = absurd (false≢true up)
@@ -182,6 +193,7 @@ any_step mask k cells below = by_test (has_cell mask k) refl where
   by_test true has = forget_step mask k k cells below has
   by_test false has = keep_step mask k k cells below has
 
+-- a cell that is made any word leaves their number
 pub any_length : (b : Bool) (cells : List Value) (k : ℕ) → length (if b then slice_set cells k top else cells) ≡ length cells
 any_length true cells k = length-set cells k top
 any_length false cells k = refl

@@ -25,6 +25,7 @@ pub record Stands (t : List ℕ) (s : State) : Type 0 where
   pub zero_cell : is_zero (cell_at s 0) ≡ true
   pub named : may_speak s.cells s.flags ≡ true
 
+-- a state that passes the test stands over the thresholds
 pub stands : (t : List ℕ) (s : State) → is_state_over t s ≡ true → Stands t s
 stands t s is =
     let a = and_parts (length s.cells == 48) (list_all (is_over t) s.cells && (is_zero (cell_at s 0) && may_speak s.cells s.flags)) is in
@@ -32,6 +33,7 @@ stands t s is =
     let c = and_parts (is_zero (cell_at s 0)) (may_speak s.cells s.flags) b.1 in
     record { size = eqb-true (length s.cells) 48 a.0; over = b.0; zero_cell = c.0; named = c.1 }
 
+-- a state that stands over thresholds passes the test
 pub from_stands : (t : List ℕ) (s : State) → Stands t s → is_state_over t s ≡ true
 from_stands t s is =
     and_from (length s.cells == 48) (list_all (is_over t) s.cells && (is_zero (cell_at s 0) && may_speak s.cells s.flags)) (eq-eqb (length s.cells) 48 is.size)
@@ -42,6 +44,7 @@ from_stands t s is =
 pub state_stands : (t : List ℕ) (s : State) → IsState s → All (IsOver t) s.cells → Stands t s
 state_stands t s is over = record { size = is.size; over = (over_all t s.cells).1 over; zero_cell = ap is_zero is.zero_cell; named = is.named }
 
+-- a state that stands over thresholds is one
 pub stands_state : (t : List ℕ) (s : State) → Stands t s → IsState s
 stands_state t s is =
     record {

@@ -17,6 +17,7 @@ use Rattle.abs_state.specs.declared.flags.Flags.TheVariants.{Unknown}
 zero_is_set : IsSet (0 ∷ [])
 zero_is_set = record { some = omega arith; few = omega arith; rising = λ k h. absurd (omega arith); fits = All-cons (λ w. w < 2 ^ 32) 0 [] (omega arith) (All-nil (λ w. w < 2 ^ 32)) }
 
+-- any word is a value
 pub top_is_value : IsValue top
 top_is_value = (search rules, search rules, omega arith)
 
@@ -27,6 +28,7 @@ entry_value c = by_tests (c == 0) (c == 15) where
   by_tests false true = tt
   by_tests false false = top_is_value
 
+-- the state at an entry is one
 pub entry_is_state : IsState entry_state
 unfolding entry_cells
 entry_is_state =

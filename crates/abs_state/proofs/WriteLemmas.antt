@@ -87,6 +87,7 @@ value_length cells c v = by_test (c == 0) where
   by_test true = refl
   by_test false = length-set cells c v
 
+-- what holds of a value and of the cells holds of the cells with it
 pub value_all : (P : Value → Type 0) (cells : List Value) (c : ℕ) (v : Value) → P v → All P cells → All P (with_value cells c v)
 value_all P cells c v is all = by_test (c == 0) where
   by_test : (b : Bool) → All P (if b then cells else slice_set cells c v)
@@ -100,6 +101,7 @@ speak_written cells f c v may = by_test (names f c) refl where
   by_test false free =
       speak_same cells (with_value cells c v) f (λ k here. other_value cells c k v (λ same. both_ways (names f c) free (subst (λ (n : ℕ). names f n ≡ true) same here))) may
 
+-- any word is over the thresholds
 pub any_over : (t : List ℕ) → IsThresholds t → IsOver t top
 any_over t is = (top_is_least t is).over
 
@@ -110,6 +112,7 @@ entry_over t c is = by_tests (c == 0) (c == 15) where
   by_tests false true = record { value = tt; ends = tt }
   by_tests false false = any_over t is
 
+-- the cells at an entry are over any thresholds
 pub entry_all : (t : List ℕ) → IsThresholds t → All (IsOver t) entry_cells
 unfolding entry_cells
 entry_all t is = All-map (IsOver t) entry_cell (range_with_len 0 48) (λ k d h. entry_over t (get_or (range_with_len 0 48) k d) is)

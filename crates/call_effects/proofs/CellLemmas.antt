@@ -15,6 +15,7 @@ pub data Stands (depth r : ℕ) : Type 0 where
 pub positive : (d : ℕ) → (suc d == 0) ≡ false
 positive d = let e : suc d ≡ 0 → ⊥ = omega arith in grind (arith, nat_tests)
 
+-- where a register of a depth stands among the cells
 pub stands : (depth r : ℕ) → Stands depth r
 stands zero r = Same refl (inl refl)
 stands (suc d) r =

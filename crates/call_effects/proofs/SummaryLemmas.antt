@@ -75,12 +75,14 @@ pub record IsUp (a b : Summary) : Type 0 where
   pub skips : implies a.skips b.skips ≡ true
   pub written : is_within a.written b.written ≡ true
 
+-- an ordered summary is ordered part by part
 pub up_parts : (a b : Summary) → is_at_most a b ≡ true → IsUp a b
 up_parts a b up =
     let outer = and_parts (implies a.returns b.returns && implies a.skips b.skips) (is_within a.written b.written) up in
     let flags = and_parts (implies a.returns b.returns) (implies a.skips b.skips) outer.0 in
     record { returns = flags.0; skips = flags.1; written = outer.1 }
 
+-- a summary that is ordered part by part is ordered
 pub from_up : (a b : Summary) → IsUp a b → is_at_most a b ≡ true
 from_up a b is =
     and_from (implies a.returns b.returns && implies a.skips b.skips) (is_within a.written b.written)

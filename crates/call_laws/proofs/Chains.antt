@@ -103,6 +103,7 @@ step_to : (calls : ℕ → ℕ → Bool) (n m : ℕ) (between : List ℕ) → Is
 step_to calls n m [] w = (m, w.0, inl refl)
 step_to calls n m (k ∷ between) w = (k, w.0, inr (record { between = between; walk = w.1 }))
 
+-- what reaches a call cycle calls something that does
 pub cycle_from_callee : (calls : ℕ → ℕ → Bool) (n : ℕ) → ReachesCycle calls n → CallsOne calls n
 cycle_from_callee calls n r = elim r.there [
   | inl e ↦

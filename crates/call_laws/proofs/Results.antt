@@ -115,6 +115,7 @@ plain_leads : (calls : ℕ → ℕ → Bool) (fits : ℕ → Bool) (n m : ℕ) �
 plain_leads calls fits n m p (inl e) = subst (λ (x : ℕ). fits x ≡ true) e (plain_fits calls fits n p)
 plain_leads calls fits n m p (inr r) = plain_along calls fits n m r.between p r.walk
 
+-- a call leads to where its callee leads
 pub leads_on : (calls : ℕ → ℕ → Bool) (n k m : ℕ) → calls n k ≡ true → LeadsTo calls k m → LeadsTo calls n m
 leads_on calls n k m c (inl e) = inr (record { between = []; walk = (subst (λ (x : ℕ). calls n x ≡ true) e c, tt) })
 leads_on calls n k m c (inr r) = inr (record { between = k ∷ r.between; walk = (c, r.walk) })

@@ -103,6 +103,7 @@ timed (body.Stub a t) entry time same is =
     let within : t ≡ time = cc in
     λ i. body.Stub (at i) (within i)
 
+-- a run that meets the assertions keeps the times of stubs
 pub keeps_stubs : (image : List ℕ) (heads : Heads) (first : Machine) (rest : List Machine) (list : List BoundAssertion) → Meets image heads first rest list
     → KeepsAllStubs image list first rest
 keeps_stubs image heads first rest list meets entry time is = by (about list (of.Entry entry)) refl is where

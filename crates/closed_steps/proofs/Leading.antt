@@ -73,6 +73,7 @@ use Rattle.closed_steps.proofs.Taking.{IsDone, there}
 use Rattle.closed_steps.specs.Act.{StepIs, is_jump}
 use Rattle.closed_steps.specs.Graph.{Answers, IsBound}
 
+-- places with the same four fields are one
 pub same_place : (p q : Place) → p.sub ≡ q.sub → p.pc ≡ q.pc → p.next ≡ q.next → p.depth ≡ q.depth → p ≡ q
 same_place p q sub pc next depth = λ i. record { sub = sub i; pc = pc i; next = next i; depth = depth i }
 
@@ -110,6 +111,7 @@ only_listed n list has a is = subst (λ (b : ℕ). Contains list b) (one is.0 is
   one zero below same = same
   one (suc k) below same = absurd (omega arith)
 
+-- a summary that is there is the one that is read
 pub summary_is : (x : Facts) (sub : ℕ) (all : Effects) → x (key.Summary sub) ≡ Some (fact.Sum all) → summary_in x sub ≡ all
 summary_is x sub all found = ap (λ o. effects_or_none (effects_in o)) found
 

@@ -58,6 +58,7 @@ pub record IsThere (t : List ℕ) (o : Option State) (depth : ℕ) (F : Frame) (
   pub is : o ≡ Some state
   pub covers : IsCovered t state depth F m
 
+-- a state that covers is there
 pub there : (t : List ℕ) (o : Option State) (depth : ℕ) (F : Frame) (m : Machine) → IsCoveredSome t o depth F m → IsThere t o depth F m
 there t None depth F m is = absurd is
 there t (Some s) depth F m is = record { state = s; is = refl; covers = is }
@@ -116,6 +117,7 @@ module _ (t image costs : List ℕ) (list : List BoundAssertion) (eight : Bool) 
     covers = takes.stands.covers;
   }
 
+  -- what the step from a place does there
   pub done : IsDone t image list eight (y (top ∷ rest)) (place_of due top m) top m next
   done =
       let kept = assertions_kept image list (place_of due top m) top.start.cwp m true bound.sound here takes.meets in

@@ -34,6 +34,7 @@ use Rattle.transfer_rules.specs.declared.fact.Fact.{Fact}
 use Rattle.transfer_rules.specs.declared.fact.Fact.TheVariants as fact
 use Rattle.context_facts.specs.Context.{AreLawful, IsAmong, IsContext, IsKept, LeastMapsAreContexts, is_local, with_others}
 
+-- the state at an entry is at most itself
 pub entry_up : (t : List ℕ) → IsThresholds t → is_state_at_most entry_state entry_state ≡ true
 entry_up t is = states_are_ordered.same t entry_state (writes_stand.entry t is)
 

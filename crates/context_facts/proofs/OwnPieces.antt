@@ -94,6 +94,7 @@ fewer_act f m p act c s piece has =
           ]
     ]
 
+-- what a place gives without entering is among what it gives
 pub fewer_given : (f : Family) (m : Program) (p : Place) (x : Facts) (piece : Piece) → Contains (gives f (closed_off m) (key.Node p) x) piece
     → Contains (gives f m (key.Node p) x) piece
 fewer_given f m p x piece has =
@@ -181,6 +182,7 @@ module _ (f : Family) (m : Program) (p : Place) where
       (own_of (f.step step s) (here f p step way c s) (λ u. own_here step way c s u))
       (λ k d h. absurd (no_act f m p (Acts step way) s _ (Contains-get_or (act_entered f (closed_off m) p (Acts step way) s) k d h))))
 
+  -- what a place gives without entering is of its subprogram
   pub own_given : (x : Facts) (piece : Piece) → Contains (gives f (closed_off m) (key.Node p) x) piece → sub_of piece.0 ≡ p.sub
   own_given x piece has =
       All-contains Own (gives f (closed_off m) (key.Node p) x) piece

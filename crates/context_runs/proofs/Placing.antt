@@ -87,6 +87,7 @@ module _
     abbrev pub window : ℕ
     window = (runs_followed image costs list (facts_of F x) x root first rest join.follows).0
 
+    -- each place of the run is followed
     pub followed : (i : ℕ) → i ≤ last → IsFollowedAt image list (facts_of F x) x window first rest i
     followed i within =
         let most = join.last_within in
@@ -95,6 +96,7 @@ module _
     abbrev pub run_mask : ℕ
     run_mask = (runs_running image costs root first rest (join.follows).bytes (join.follows).begins (join.follows).runs).0
 
+    -- what holds of each machine of the run
     pub running : (i : ℕ) → IsRunningAt image run_mask first rest i
     running i = (runs_running image costs root first rest (join.follows).bytes (join.follows).begins (join.follows).runs).2 i
 

@@ -66,6 +66,7 @@ module _ (t image : List ℕ) (list : List BoundAssertion) (eight : Bool) (x : F
   next_exists (In c) p has (Stub time) is = tt
   next_exists (In c) p has (In d) is = contexts.follows c d p has is
 
+  -- the contexts of a stack exist
   pub stack_exists : (stack : List Frame) → Exists (standing_of F stack)
   stack_exists [] = tt
   stack_exists (root ∷ []) = root_exists root.sub (F.roots root.sub) refl

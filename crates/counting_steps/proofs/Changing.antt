@@ -53,6 +53,7 @@ left_by (Some w) mask value c contents low free = elim (cases_eq c w.cell) [ inl
             (has-with mask w.cell c ∙ or_right (has_cell mask c) (c == w.cell) (eq-eqb c w.cell same))))
       ]
 
+-- a step that doesn't write a cell leaves it
 pub leaves_cell : (image : List ℕ) (step : Step) (way : Way) (cwp c : ℕ) (m next : Machine) → Does image step way cwp m next → c < 48
     → has_cell (mask_of step) c ≡ false → content_of next cwp c ≡ content_of m cwp c
 leaves_cell image step way cwp c m next does low free =
@@ -86,6 +87,7 @@ amounts op.Addx carry x y up down low right is least most = absurd is
 amounts op.Subx carry x y up down low right is least most = absurd is
 amounts op.Mul carry x y up down low right is least most = absurd is
 
+-- a step that adds to a cell changes it by as much
 pub adds_cell : (image : List ℕ) (p : Place) (step : Step) (way : Way) (before : State) (cwp ra c up down : ℕ) (m next : Machine) → Does image step way cwp m next → c < 48
     → ra < 2 ^ 32 → ((r : ℕ) → r < 48 → content_of m cwp r < 2 ^ 32) → ((r : ℕ) → r < 48 → Has (cell_at before r) (content_of m cwp r) ra)
     → Adds p step before c up down → place_of (content_of next cwp c) + down ≡ place_of (content_of m cwp c) + up

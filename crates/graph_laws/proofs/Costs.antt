@@ -15,10 +15,12 @@ abbrev pub spent : Costs → ℕ → List ℕ → ℕ
 spent costs n [] = 0
 spent costs n (m ∷ rest) = costs.node n + costs.edge n m + spent costs m rest
 
+-- a walk costs what it has spent and its last node
 pub cost_is_spent : (costs : Costs) (n : ℕ) (rest : List ℕ) → cost_of costs n rest ≡ spent costs n rest + costs.node (end_of n rest)
 cost_is_spent costs n [] = omega arith
 cost_is_spent costs n (m ∷ rest) = let e : cost_of costs m rest ≡ spent costs m rest + costs.node (end_of m rest) = cost_is_spent costs m rest in omega (arith, e)
 
+-- what two walks have spent adds up
 pub spent-append : (costs : Costs) (n m : ℕ) (xs ys : List ℕ)
     → spent costs n (xs ++ m ∷ ys) ≡ spent costs n xs + (costs.node (end_of n xs) + costs.edge (end_of n xs) m) + spent costs m ys
 spent-append costs n m [] ys = omega arith
@@ -213,6 +215,7 @@ module _ (edge : ℕ → ℕ → Bool) (entry : ℕ) (loops : Loops) (bound : �
     rest_descends m rest w.1,
   )
 
+  -- labels bound the walks from the entry
   pub labels_bound : (rest : List ℕ) → IsWalk edge entry rest → KeepsBounds loops bound (entry ∷ rest) → cost_of costs entry rest ≤ most_from loops bound labels entry
   labels_bound rest w keeps =
       let held : IsHeld loops bound (entry ∷ rest) = held_from_keeps loops bound (entry ∷ rest) keeps in
@@ -254,6 +257,7 @@ module _ (edge : ℕ → ℕ → Bool) (entry : ℕ) (loops : Loops) (bound : �
     | inr a ↦ passes_other k m rest a.0 ∙ not_passed body k m rest o w.1
   ]
 
+  -- labels of a body bound the walks inside it from its head
   pub own_bound : (h : ℕ) (own : ℕ → ℕ) → loops.has h ≡ true → AreOwnLabels edge loops bound costs labels h own
       → CostAtMost (edges_inside edge (loops.body h)) h loops bound costs (laps_cost loops bound labels h + own h)
   own_bound h own has a rest w keeps =

@@ -57,6 +57,7 @@ falling_sums edge body head changes step label b sums between turn =
     let h : label head + total changes.up (head ∷ between) + step ≤ label head + total changes.down (head ∷ between) = falling_along edge body head changes step label sums head between b turn.walk turn.inside turn.once in
     omega (arith, h)
 
+-- a sum with one node more at the end
 pub sum-snoc : (f : ℕ → ℕ) (n m : ℕ) (xs : List ℕ) → total f (n ∷ (xs ++ m ∷ [])) ≡ total f (n ∷ xs) + f m
 sum-snoc f n m [] = omega arith
 sum-snoc f n m (x ∷ xs) = let e : total f (x ∷ (xs ++ m ∷ [])) ≡ total f (x ∷ xs) + f m = sum-snoc f x m xs in omega (arith, e)

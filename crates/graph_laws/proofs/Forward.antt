@@ -56,6 +56,7 @@ turned_walk edge n m (b ∷ between) w =
 pub walks_turned : WalksTurn
 walks_turned = turned_walk
 
+-- what is reached is reached back in the graph turned round
 pub reach_turned : (edge : ℕ → ℕ → Bool) (n m : ℕ) → Reaches edge n m → Reaches (turned edge) m n
 reach_turned edge n m r = record { between = reverse r.between; walk = turned_walk edge n m r.between r.walk }
 

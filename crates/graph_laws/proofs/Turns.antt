@@ -14,6 +14,7 @@ pub data Goal : Type 0 where
   Inside : ℕ → Goal
   BackTo : ℕ → Goal
 
+-- the nodes that a goal may stand in
 abbrev pub area_of : Loops → Goal → ℕ → Bool
 area_of loops Anywhere n = true
 area_of loops (Inside h) n = loops.body h n
@@ -99,6 +100,7 @@ module _ (edge : ℕ → ℕ → Bool) (entry : ℕ) (loops : Loops) (bound : �
       let g : first (loops.body n) n (turn.rest ++ []) ≤ first (loops.body n) n turn.rest + first (loops.body n) n [] = first-append (loops.body n) n turn.rest [] in
       omega (arith, z, f, g)
 
+  -- what is left behind a turn
   pub after_turn : (n : ℕ) (rest : List ℕ) (k : ℕ) → loops.has k ≡ true → n ≢ k → ((j : ℕ) → loops.has j ≡ true → loops.body j n ≡ true → n ≢ j → first (loops.body j) j rest ≡ 0) → first (loops.body k) k (n ∷ rest) ≡ 0
   after_turn n rest k has ne calm = elim (tells (loops.body k n)) [
     | inl t ↦ elim (eqb_tells n k) [

@@ -171,6 +171,7 @@ nested_reached (suc zero) m e = record { rest = 1 ∷ []; walk = (refl, tt); end
 nested_reached (suc (suc zero)) m e = record { rest = 1 ∷ 2 ∷ []; walk = (refl, (refl, tt)); ends = refl }
 nested_reached (suc (suc (suc n))) m e = cc
 
+-- the loops of the nested graph are loops
 pub nested_are_loops : AreLoops nested 0 (loops_of nested_nest)
 nested_are_loops = nests_loops nested 0 nested_nest nested_is nested_reached
 

@@ -27,6 +27,7 @@ use Rattle.jump_resolve.specs.Target.{may_go, is_target, target_list, is_other, 
 later : (y : ℕ) (ys : List ℕ) (a : ℕ) → Contains ys a → Contains (y ∷ ys) a
 later y ys a there = (suc there.0, omega (arith, there.1), there.2)
 
+-- what is in the list and passes is kept
 pub kept_by : (p : ℕ → Bool) (xs : List ℕ) (a : ℕ) → Contains xs a → p a ≡ true → Contains (filter p xs) a
 kept_by p [] a there passes = absurd (omega (arith, there.1))
 kept_by p (x ∷ xs) a there passes = ⊎_elim first (λ more. chosen (p x) (kept_by p xs a more passes)) (head_or_tail x xs a there) where
@@ -37,9 +38,11 @@ kept_by p (x ∷ xs) a there passes = ⊎_elim first (λ more. chosen (p x) (kep
   chosen true more = later x (filter p xs) a more
   chosen false more = more
 
+-- what a filter keeps is in the list
 pub kept_from : (p : ℕ → Bool) (xs : List ℕ) (a : ℕ) → Contains (filter p xs) a → Contains xs a
 kept_from p xs a there = All-contains (Contains xs) (filter p xs) a (All-filter p (Contains xs) xs (All-contains_itself xs)) there
 
+-- what a filter keeps passes
 pub kept_passes : (p : ℕ → Bool) (xs : List ℕ) (a : ℕ) → Contains (filter p xs) a → p a ≡ true
 kept_passes p xs a there = All-contains (λ x. p x ≡ true) (filter p xs) a (filter_passes p xs) there
 
@@ -57,6 +60,7 @@ in_list image v candidates a there =
     let goes = and_parts (may_have v a) (is_code image a) parts.1 in
     record { word = below; candidate = (member_decides candidates a).0 parts.0; code = goes.1; may = (may_have_decides v a below).0 goes.0 }
 
+-- a target is in the list of targets
 pub is_in_list : (image : List ℕ) (v : Value) (candidates : List ℕ) (a : ℕ) → IsTarget image v candidates a → Contains (target_list image v candidates) a
 unfolding target_list
 is_in_list image v candidates a is =
@@ -154,6 +158,7 @@ module _ (list : List ℕ) (r : Bool) where
   quarter : (a : ℕ) → a < 2 ^ 32 → a % 4 ≡ 0 → word_at (4 * (place_of a / 4)) ≡ a
   quarter a below aligned = omega arith
 
+  -- a list with each multiple of 4 between the ends is whole for the range
   pub whole_range : (lo hi : ℤ) → rank_of hi < 2 ^ 32 → Decides r ((q : ℕ) → rank_of lo ≤ 4 * q → 4 * q ≤ rank_of hi → Contains list (word_at (4 * q))) → r ≡ is_whole (Range lo hi) list
   whole_range lo hi fits decides =
       one_answer r (is_whole (Range lo hi) list) decides (
@@ -168,6 +173,7 @@ module _ (list : List ℕ) (r : Bool) where
             subst (Contains list) (quarter a below aligned) (each (place_of a / 4) (omega arith) (omega arith))),
       )
 
+  -- a list with each multiple of 4 is whole for the return address
   pub whole_any : Decides r ((q : ℕ) → 0 ≤ 4 * q → 4 * q ≤ 4294967295 → Contains list (word_at (4 * q))) → r ≡ is_whole Ret list
   whole_any decides =
       one_answer r (is_whole Ret list) decides (

@@ -59,6 +59,7 @@ module _ {T : Type 0} where
         (λ (x : (i ≢ id) × (get_elem? s.views i ≡ some seat)). kept.light i seat x.1 none) (at_set s.views id i w seat is);
   }
 
+  -- a take keeps the rule
   pub takes_keep : (id n : ℕ) (t u : Table T) → IsKept t → IsTake id n t u → IsKept u
   takes_keep id n t u kept take = subst IsKept (sym take.after) (changed t id n 0 none take.seat (hold take.seat.weight (n ∷ take.seat.held)) kept take.here refl take.heavy
       (λ k apart. omega (arith, same_else n k (λ e. apart (sym e))))
@@ -76,6 +77,7 @@ module _ {T : Type 0} where
   pub held_is_out : (s : Table T) (id n : ℕ) (v : Hold) → IsKept s → get_elem? s.views id ≡ some v → n < length s.homes → 1 ≤ times n v.held → IsOut s n
   held_is_out s id n v kept at near held = ⊎_elim (λ (home : IsHome s n). absurd (omega (arith, home.unheld, held, term_le (λ (seat : Hold). times n seat.held) s.views id v at))) (λ out. out) (kept.parts n near)
 
+  -- a put keeps the rule
   pub puts_keep : (id n : ℕ) (part : T) (t u : Table T) → IsKept t → IsPut id n part t u → IsKept u
   puts_keep id n part t u kept put = let out = held_is_out t id n put.seat kept put.here put.within put.held in
       subst IsKept (sym put.after) (changed t id n 1 (some (Some part)) put.seat (hold put.seat.weight (without n put.seat.held)) kept put.here refl (weighs t id n put.seat kept put.here put.held)
@@ -98,6 +100,7 @@ module _ {T : Type 0} where
     light = light;
   }
 
+  -- a split keeps the rule
   pub splits_keep : (id : ℕ) (t u : Table T) → IsKept t → IsSplit id t u → IsKept u
   splits_keep id t u kept split = let left : Hold = hold (split.seat.weight - 1) split.seat.held in let vs : List Hold = set t.views id left in
       subst IsKept (sym split.after) (seats_keep t (vs ++ hold 1 [] ∷ []) kept
@@ -107,6 +110,7 @@ module _ {T : Type 0} where
       (λ (x : (i ≢ id) × (get_elem? t.views i ≡ some seat)). kept.light i seat x.1 none) (at_set t.views id i left seat old))
       (λ (new : hold 1 [] ≡ seat). absurd (omega (arith, ap (λ (w : Hold). w.weight) new, none))) (at_snoc vs (hold 1 []) seat i is)))
 
+  -- a join keeps the rule
   pub joins_keep : (id other : ℕ) (t u : Table T) → IsKept t → IsJoin id other t u → IsKept u
   joins_keep id other t u kept join = let both : Hold = hold (join.seat.weight + join.joined.weight) join.seat.held in let vs : List Hold = set t.views id both in
       let there : get_elem? vs other ≡ some join.joined = set_else t.views id other both join.apart ∙ join.there in
@@ -118,9 +122,11 @@ module _ {T : Type 0} where
       (λ (y : (i ≡ id) × (both ≡ seat)). sym (ap (λ (w : Hold). w.held) y.1) ∙ kept.light id join.seat join.here (omega (arith, ap (λ (w : Hold). w.weight) y.1, none)))
       (λ (y : (i ≢ id) × (get_elem? t.views i ≡ some seat)). kept.light i seat y.1 none) (at_set t.views id i both seat x.1)) (at_set vs other i (hold 0 []) seat is)))
 
+  -- a miss keeps the rule
   pub misses_keep : (n : ℕ) (t u : Table T) → IsKept t → IsMiss n t u → IsKept u
   misses_keep n t u kept miss = subst IsKept (sym miss.after) kept
 
+  -- a load keeps the rule
   pub loads_keep : (t u : Table T) → IsKept t → IsLoad t u → IsKept u
   loads_keep t u kept load = subst IsKept (sym load) kept
 
@@ -129,6 +135,7 @@ module _ {T : Type 0} where
   some_part (x ∷ xs) zero near = (x, refl)
   some_part (x ∷ xs) (suc i) near = some_part xs i (omega arith)
 
+  -- the opening makes a table that keeps the rule
   pub opening_keeps : (parts : List T) (t : Table T) → IsOpening parts t → IsKept t
   opening_keeps parts t is = let wide : length (map some (map Some parts)) ≡ length parts = length-map (map Some parts) some ∙ length-map parts Some in
       subst IsKept (sym is) record {

@@ -41,9 +41,11 @@ module _ {T : Type 0} where
       let home = closes t n id final.1.0 record { here = here } (omega (arith, final.3, near)) in
       (home.part, final.4 n (Some home.part) home.slot)
 
+-- a later slot stays full
 pub set_full : (filled : List Bool) (n k : ℕ) → n + 1 ≤ k → get_or filled k false ≡ true → get_or (set filled n false) k false ≡ true
 set_full filled n k later full = get_or-set_other filled n k false false (λ e. omega arith) ∙ full
 
+-- the slots up to one are empty once that is
 pub set_empty : (filled : List Bool) (n k : ℕ) → n < length filled → k < n + 1 → (k < n → get_or filled k false ≡ false) → get_or (set filled n false) k false ≡ false
 set_empty filled n k within near empty = dite (ℕ_discrete k n) (λ e. ap (λ (j : ℕ). get_or (set filled n false) j false) e ∙ get_or-set_same filled n false false within)
     (λ apart. get_or-set_other filled n k false false (λ e. omega (arith, e, apart)) ∙ empty (omega arith))

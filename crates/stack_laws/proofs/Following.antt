@@ -194,6 +194,7 @@ module _ (image costs : List ℕ) (list : List BoundAssertion) (y : StackFacts) 
     pub goes : GoesBack y x lowest (below ∷ rest) next
     pub still : transfer_of image m ≡ Stays
 
+  -- the pop of the lowest frame of a stub
   pub popped : (lowest below : Frame) (rest : List Frame) (m next : Machine) → IsRunning image invalid (record { machine = m; due = Returns; frames = lowest ∷ below ∷ rest })
       → IsRunning image invalid (record { machine = next; due = transfer_of image m; frames = below ∷ rest }) → StepsTo image costs m next
       → IsPushed image invalid lowest → is_stub list lowest.sub ≡ true → StubReturns (root_window lowest (below ∷ rest)) lowest next → ArePlain list (below ∷ rest)

@@ -28,6 +28,7 @@ window_kept m rd value = by (eqb rd 0) where
   by true = refl
   by false = refl
 
+-- a write to a register leaves the condition codes
 pub flags_kept : (m : Machine) (rd value : ℕ) → flags_in (with_register m rd value) ≡ flags_in m
 flags_kept m rd value = by (eqb rd 0) where
   by : (b : Bool) → flags_in (cond b m (record m { regs = slice_set m.regs (physical_of m.cwp rd) value })) ≡ flags_in m
@@ -43,6 +44,7 @@ module _ (cwp depth : ℕ) (m : Machine) (at : IsAtDepth cwp depth m) (machine :
   pub register_is : (r : ℕ) → r < 32 → IsOperandIn (content_of m cwp) (register depth r) (register_of m r)
   register_is r low = ((cells_tell_registers_apart.within) depth r low, (registers_hold_contents.read) cwp depth m r at low)
 
+  -- a second operand comes to what the cells hold
   pub operand_is : (second : Second) → IsOperand second → IsOperandIn (content_of m cwp) (operand depth second) (operand_of m second)
   operand_is (Reg r) low = register_is r low
   operand_is (Imm n) range = let w : operand_of m (Imm n) < 2 ^ 32 = second_word m (Imm n) machine range in omega arith
@@ -103,6 +105,7 @@ pub going_follows : (image : List ℕ) (step : Step) (cwp : ℕ) (m next : Machi
     → FollowsIn image step cwp m (record next { pc = pc; npc = npc })
 going_follows image step cwp m next pc npc h = record { window = h.window; follows = h.follows }
 
+-- what is charged changes nothing that follows
 pub charged_follows : (image : List ℕ) (step : Step) (cwp : ℕ) (m next : Machine) (cost these : ℕ) → FollowsIn image step cwp m next
     → FollowsIn image step cwp m (charged next cost these)
 charged_follows image step cwp m next cost these h = record { window = h.window; follows = h.follows }

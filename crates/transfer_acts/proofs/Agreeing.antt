@@ -116,6 +116,7 @@ read_where : (b : Bool) (w : Option ℕ) (i : Instr) → option_map instruction_
 read_where true w i same = same
 read_where false w i same = cc
 
+-- an instruction of code is the one that can be read there
 pub code_is_read : (image : List ℕ) (a : ℕ) (i : Instr) → code_instruction image a ≡ Some i → instruction_at image a ≡ Some i
 code_is_read image a i same = read_where (is_code image a) (word image a) i same
 
