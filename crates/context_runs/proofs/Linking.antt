@@ -55,7 +55,7 @@ module _ (F : Contexts) (image costs : List ℕ) (first : Machine) (rest : List 
         → (F.family c).leads (F.number c (waiting_place f (pushed target address (machine_at image first rest (suc i)))))
         ≡ Some (F.follows c (waiting_place f (pushed target address (machine_at image first rest (suc i)))))
 
-  -- each frame was pushed by a call
+  -- where a call is due, it is made from the frame on top, and pushes onto it
   abbrev pub ArePushes : ℕ → Transfer → List Frame → Type 0
   ArePushes i Stays frames = Unit {0}
   ArePushes i (Calls target address) [] = Unit {0}
