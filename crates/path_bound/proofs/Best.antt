@@ -19,12 +19,15 @@ pub record IsAsked (cut : ℕ → ℕ) (head : Option ℕ) (laps : ℕ → ℕ) 
   pub there : has nodes node ≡ true
   pub asks : asked cut head laps label (step_to cost node) ≡ Some one
 
+-- what is there is one
 pub some_is : {A : Type 0} {x y : A} → Some x ≡ Some y → x ≡ y
 some_is e = cc
 
+-- a list has its first
 pub has_first : (m : ℕ) (nodes : List ℕ) → has (m ∷ nodes) m ≡ true
 has_first m nodes = ap (λ (b : Bool). b || has nodes m) (eq-eqb m m refl)
 
+-- one of two tests holds where the second does
 pub or_right : (a b : Bool) → b ≡ true → (a || b) ≡ true
 or_right true b h = refl
 or_right false b h = h
@@ -56,6 +59,7 @@ kept_either : (b : Bool) (old new one : Label) → cond b (Some new) (Some old) 
 kept_either true old new one e = inr e
 kept_either false old new one e = inl e
 
+-- the greater of two labels is one of them
 pub greater_either : (old new : Option Label) (one : Label) → greater old new ≡ Some one → (old ≡ Some one) ⊎ (new ≡ Some one)
 greater_either None new one e = inr e
 greater_either (Some old) None one e = inl e

@@ -211,6 +211,7 @@ module _ (graph : List (List ℕ)) (entry : ℕ) (loops : List Loop) (bounds : L
             ∙ toll_capped (costs_in costs) (λ n. get_or laps n 0) (further (loops_in loops) (bound_in loops bounds) (full loops turns graph bounds costs order)) entry followed.rest
             ((costs_in costs).node (end_of entry followed.rest)) (laps_full followed.rest)))
 
+        -- what is found is the longest walk, with its turns
         pub is_longest : (long : LongWalk) → long.cost ≡ cost → long.walk.items ≡ walk → long.turns.items ≡ turns → IsLongest (is_edge graph) entry loops bounds costs long
         is_longest long c w s = record {
           greatest = laps_of (task_of graph loops bounds costs) (size_of order) entry

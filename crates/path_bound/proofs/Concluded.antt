@@ -44,6 +44,7 @@ module _ (graph : List (List ℕ)) (entry : ℕ) (loops : List Loop) (bounds : L
     pub order_nodes : (n : ℕ) → has survey.order.items n ≡ true → n < length graph
     order_nodes n h = s.are_nodes.only n (sym (s.sorted.same n) ∙ h)
 
+    -- the entry has its place in the order
     pub entry_placed : rank_in survey.order.items entry < length survey.order.items
     entry_placed = rank_within survey.order.items entry (s.sorted.same entry ∙ s.are_nodes.all entry inside)
 
@@ -102,6 +103,7 @@ module _ (graph : List (List ℕ)) (entry : ℕ) (loops : List Loop) (bounds : L
           subst (λ (x : List ℕ). IsOver (is_edge graph) loops (loops_in loops) survey.order.items costs.node.items survey.steps.items x costs.start entry named) laps_is three_step in
           the_refusal is_over.priced.labels is_over.priced.passed is_over.cost is_over.priced.told is_over.over named is_over.by
 
+      -- a refusal is for a cost that is too great, or for memory
       pub over_or : (why : PathRefusal) → IsOverOr (is_edge graph) loops (loops_in loops) order node steps laps costs.start entry why → IsRefusal (is_edge graph) entry loops bounds costs why
       over_or (refusal.TooLarge named) o = over_refusal named o
       over_or refusal.Want o = tt

@@ -25,6 +25,7 @@ times_capped (suc a) b l h = elim (cases_lt b l) [
       ap (λ (x : ℕ). min (suc a * x) l) e ∙ omega (arith, p, q)
 ]
 
+-- laps of a capped turn are capped as those of the turn
 pub lap_capped : (a b : ℕ) → cap (a * cap b) ≡ cap (a * b)
 lap_capped a b = times_capped a b limit (lit≤ tt)
 
@@ -66,6 +67,7 @@ further loops bound full n = cond (loops.has n) ((bound n - 1) * full n) 0
 abbrev pub full_next : Task → (ℕ → List ℕ) → (ℕ → ℕ) → ℕ → ℕ
 full_next t walk full h = toll t.costs (further t.loops t.bound full) h (walk h) + move_of t (end_of h (walk h)) h
 
+-- the true cost of a turn
 abbrev pub full_of : Task → (ℕ → List ℕ) → ℕ → ℕ → ℕ
 full_of t walk size h = cond (t.loops.has h) (iterate (λ full n. cond (t.loops.has n) (full_next t walk full n) 0) 0 size h) 0
 
@@ -135,5 +137,6 @@ module _ (t : Task) (rank : ℕ → ℕ) (size : ℕ) (small : (n : ℕ) → ran
       (all_capped h (λ m r b. told_by k m (omega (arith, r, l)) b) (walk h) o.lower)
       ∙ ap (λ (x : ℕ). cap x) (sym (full_fixed h a)))
 
+  -- the cost that is told is the true one, capped
   pub told_full : (h : ℕ) → t.loops.has h ≡ true → cost h ≡ cap (full_of t walk size h)
   told_full h a = told_by (suc (rank h)) h (omega arith) a

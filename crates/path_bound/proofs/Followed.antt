@@ -75,5 +75,6 @@ module _ (order : List ℕ) (head : Option ℕ) (node : List ℕ) (steps : List 
   pub next_falls : (n m : ℕ) → next_of (label_at labels n) ≡ Some m → rank_in order m < rank_in order n
   next_falls n m e = rank_taken order (rank_in order n) m (taken_next n m (there n m e) e)
 
+  -- the node that a label leads to is placed
   pub next_there : (n m : ℕ) → next_of (label_at labels n) ≡ Some m → has order m ≡ true
   next_there n m e = all_taken order (rank_in order n) m (let r : rank_in order n < length order = rank_within order n (there n m e) in omega (arith, r)) (taken_next n m (there n m e) e)

@@ -55,6 +55,7 @@ pub record IsGoing (t : Task) (cut : ℕ → ℕ) (head : Option ℕ) (laps : �
   pub there : label node ≡ Some two
   pub is : one ≡ record { cost = cut (cut (cost n node + laps node) + two.cost); next = Some node }
 
+-- a label that is made is what the node or one of its edges asks
 pub chosen_of : (t : Task) (cut : ℕ → ℕ) (head : Option ℕ) (laps : ℕ → ℕ) (label : ℕ → Option Label) (test : ℕ → Bool) (cost : ℕ → ℕ → ℕ) (n : ℕ) (start : Option Label) (one : Label)
     → best_of cut head laps (only test label) start (moves (cost n) (row_of t n)) ≡ Some one
     → (start ≡ Some one) ⊎ (IsEnding t head n cost one ⊎ IsGoing t cut head laps label test cost n one)
@@ -90,6 +91,7 @@ module _ (t : Task) (whole : ℕ → Bool) (rank : ℕ → ℕ) (size : ℕ) (sm
   fixed : (inside : ℕ → Bool) (head : Option ℕ) (n : ℕ) → through t size inside head n ≡ label_next t inside head (laps_of t size) (through t size inside head) n
   fixed inside head n = label_fixed t rank size small falls inside head (laps_of t size) n
 
+  -- an edge along which a walk goes on asks for its label
   pub going : (inside : ℕ → Bool) (head : Option ℕ) (n m : ℕ) (one : Label) → is_edge t.graph n m ≡ true → is_back t.loops n m ≡ false → inside m ≡ true → is_end head m ≡ false
       → through t size inside head m ≡ Some one → IsLabel (through t size inside head n) (move_of t n m + laps_of t size m + one.cost)
   going inside head n m one e f i o l =
@@ -99,6 +101,7 @@ module _ (t : Task) (whole : ℕ → Bool) (rank : ℕ → ℕ) (size : ℕ) (sm
       (goes_on exact head (laps_of t size) (through t size inside head) (goes t inside n) (move_of t n) m one o (two_true (inside m) (not (is_back t.loops n m)) i (ap not f)) l) in
       record { one = b.one; is = fixed inside head n ∙ b.is; least = b.least }
 
+  -- an edge to where a walk ends asks for its label
   pub ending : (inside : ℕ → Bool) (head : Option ℕ) (n m : ℕ) → is_edge t.graph n m ≡ true → is_end head m ≡ true → IsLabel (through t size inside head n) (move_of t n m)
   ending inside head n m e o =
       let b : IsLabel (label_next t inside head (laps_of t size) (through t size inside head) n) (move_of t n m) =
@@ -106,6 +109,7 @@ module _ (t : Task) (whole : ℕ → Bool) (rank : ℕ → ℕ) (size : ℕ) (sm
       (record { cost = move_of t n m; next = None }) e (ended exact head (laps_of t size) (only (goes t inside n) (through t size inside head)) (move_of t n) m o) in
       record { one = b.one; is = fixed inside head n ∙ b.is; least = b.least }
 
+  -- a walk that ends anywhere may end at the node itself
   pub starting : (inside : ℕ → Bool) (n : ℕ) → IsLabel (through t size inside None n) (t.costs.node n)
   starting inside n =
       let b : IsLabel (label_next t inside None (laps_of t size) (through t size inside None) n) (t.costs.node n) =

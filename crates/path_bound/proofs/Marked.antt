@@ -14,6 +14,7 @@ use Rattle.path_bound.proofs.Placed.{some_one, place_is, head_place}
 
 module _ (edge : ℕ → ℕ → Bool) (loops : List Loop) (rise : HeadsRise loops) (node : List ℕ) (steps : List (Vec Step Global)) (laps : List ℕ) (large : List Bool) (place : ℕ) (one : Loop)
     (at : slice_get loops place ≡ Some one) (within : one.head < length large) (is : Bool) (weighed : IsWeighed edge (loops_in loops) one node steps laps is) where
+  -- one loop more is weighed
   pub each_on : ((k : ℕ) (two : Loop) → k < place → slice_get loops k ≡ Some two → IsWeighed edge (loops_in loops) two node steps laps (is_marked large two.head))
       → (k : ℕ) (two : Loop) → k < place + 1 → slice_get loops k ≡ Some two → IsWeighed edge (loops_in loops) two node steps laps (is_marked (set large one.head is) two.head)
   each_on each k two l e = elim (cases_lt k place) [
@@ -27,11 +28,13 @@ module _ (edge : ℕ → ℕ → Bool) (loops : List Loop) (rise : HeadsRise loo
         (subst (λ (b : Bool). IsWeighed edge (loops_in loops) one node steps laps b) (sym (get_or-set_same large one.head is false within)) weighed)
   ]
 
+  -- the loops behind the next place aren't marked yet
   pub others_on : ((n : ℕ) → place ≤ place_of loops n → is_marked large n ≡ false) → (n : ℕ) → place + 1 ≤ place_of loops n → is_marked (set large one.head is) n ≡ false
   others_on others n l =
       get_or-set_other large one.head n is false (λ q. let p : place_of loops one.head ≡ place = place_is loops rise place one at in omega (arith, l, p, ap (place_of loops) q))
       ∙ others n (omega (arith, l))
 
+-- in the end all loops are weighed
 pub all_weighed : (edge : ℕ → ℕ → Bool) (loops : List Loop) (node : List ℕ) (steps : List (Vec Step Global)) (laps : List ℕ) (large : List Bool) (place : ℕ) → place ≡ length loops
     → ((k : ℕ) (two : Loop) → k < place → slice_get loops k ≡ Some two → IsWeighed edge (loops_in loops) two node steps laps (is_marked large two.head))
     → ((n : ℕ) → place ≤ place_of loops n → is_marked large n ≡ false) → AreLarge edge loops (loops_in loops) node steps laps (is_marked large)

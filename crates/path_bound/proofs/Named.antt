@@ -114,6 +114,7 @@ module _ (all : Loops) (loops : List Loop) (rise : HeadsRise loops) (listed : (h
             | inr h ↦ let g : large a.1 ≡ false = others a.1 h in let i : large a.1 ≡ true = p.1 in cc
           ]
 
+  -- the first of the large loops, or the entry, is the one that is named
   pub named : (entry : ℕ) → IsNamed all own entry (first_of large loops entry)
   named entry = elim (first_cases large loops entry) [
     | inl f ↦ inl (

@@ -43,6 +43,7 @@ rank_within (x ∷ xs) n h = elim (tells (n == x)) [
       let r : rank_in xs n < length xs = rank_within xs n (sym (ap (λ (b : Bool). b || has xs n) t) ∙ h) in omega (arith, e, r)
 ]
 
+-- no place is past the end
 pub rank_most : (xs : List ℕ) (n : ℕ) → rank_in xs n ≤ length xs
 rank_most [] n = omega arith
 rank_most (x ∷ xs) n = most (n == x) (rank_most xs n)
@@ -54,6 +55,7 @@ rank_most (x ∷ xs) n = most (n == x) (rank_most xs n)
 same : (a b : ℕ) → (a == b) ≡ true → a ≡ b
 same a b t = elim (eqb_tells a b) [ inl q ↦ q.1 | inr q ↦ let f : (a == b) ≡ false = q.0 in cc ]
 
+-- at its place stands the node itself
 pub rank_at : (xs : List ℕ) (n : ℕ) → has xs n ≡ true → get_or xs (rank_in xs n) 0 ≡ n
 rank_at [] n h = cc
 rank_at (x ∷ xs) n h = elim (tells (n == x)) [
@@ -63,6 +65,7 @@ rank_at (x ∷ xs) n h = elim (tells (n == x)) [
       ∙ rank_at xs n (sym (ap (λ (b : Bool). b || has xs n) t) ∙ h)
 ]
 
+-- what a list has stands at a place
 pub place_in : (xs : List ℕ) (n : ℕ) → has xs n ≡ true → IsAt xs n
 place_in xs n h = record { place = rank_in xs n; within = rank_within xs n h; is = rank_at xs n h }
 
@@ -77,6 +80,7 @@ rank_taken (x ∷ xs) (suc i) n h = elim (tells (n == x)) [
       let r : rank_in xs n < i = rank_taken xs i n (sym (ap (λ (b : Bool). b || has (take i xs) n) t) ∙ h) in omega (arith, e, r)
 ]
 
+-- a node whose place is passed is among those taken
 pub taken_rank : (xs : List ℕ) (i n : ℕ) → has xs n ≡ true → rank_in xs n < i → has (take i xs) n ≡ true
 taken_rank [] i n h l = cc
 taken_rank (x ∷ xs) zero n h l = absurd (omega (arith, l))
@@ -140,6 +144,7 @@ pub record IsReachedInside (edge : ℕ → ℕ → Bool) (loops : Loops) (h n : 
   pub stays : AreInside (loops.body h) rest
   pub ends : end_of h rest ≡ n
 
+-- inside a nest the nodes of a body are reached from its head
 pub reached_inside : (edge : ℕ → ℕ → Bool) (entry : ℕ) (nest : Nest) → IsNest edge entry nest → AreReached edge entry → (h n : ℕ) → nest.has h ≡ true → nest.body h n ≡ true
     → IsReachedInside edge (loops_of nest) h n
 reached_inside edge entry nest is reached h n a b =

@@ -74,6 +74,7 @@ take_on (x ∷ xs) (suc k) (suc i) n l h = elim (tells (n == x)) [
     right true b h = refl
     right false b h = h
 
+-- no node is passed yet
 pub passed_begun : (order : List ℕ) (head : Option ℕ) (node : List ℕ) (steps : List (Vec Step Global)) (laps : List ℕ) (labels : List (Option Label)) → length labels ≡ length node → NoLabels labels
     → ArePassedUpTo order head node steps laps 0 labels
 passed_begun order head node steps laps labels size none = record { size = size; labelled = λ k l. absurd (omega (arith, l)); others = λ n h. none n }
@@ -100,6 +101,7 @@ module _ (order : List ℕ) (head : Option ℕ) (node : List ℕ) (steps : List 
     | inr t ↦ was.others m t ∙ sym (ap (λ (b : Bool). cond b (label_at (set labels (get_or order i 0) o) m) None) t)
   ]
 
+  -- one node more is passed
   pub passed_on : ArePassedUpTo order head node steps laps (i + 1) (set labels (get_or order i 0) o)
   passed_on = record {
     size = length-set labels (get_or order i 0) o ∙ was.size;
@@ -149,9 +151,11 @@ pub record IsOnWay (labels : List (Option Label)) (from : ℕ) (walk : List ℕ)
   pub leads : Leads labels from rest
   pub ends : end_of from rest ≡ node
 
+-- a way begins at its node
 pub way_begun : (labels : List (Option Label)) (from : ℕ) (walk : List ℕ) → walk ≡ from ∷ [] → IsOnWay labels from walk from
 way_begun labels from walk e = record { rest = []; begins = e; leads = tt; ends = refl }
 
+-- a way goes on by one label more
 pub way_on : (labels : List (Option Label)) (from node next : ℕ) (walk : List ℕ) → IsOnWay labels from walk node → next_of (label_at labels node) ≡ Some next → IsOnWay labels from (walk ++ next ∷ []) next
 way_on labels from node next walk w e = record {
   rest = w.rest ++ next ∷ [];
@@ -160,6 +164,7 @@ way_on labels from node next walk w e = record {
   ends = end_on from next w.rest;
 }
 
+-- a way along labels ends where they lead no further
 pub way_done : (labels : List (Option Label)) (from node : ℕ) (walk : List ℕ) → IsOnWay labels from walk node → next_of (label_at labels node) ≡ None → IsFollowed labels from walk
 way_done labels from node walk w e = record { rest = w.rest; begins = w.begins; leads = w.leads; ends = ap (λ (x : ℕ). next_of (label_at labels x)) w.ends ∙ e }
 

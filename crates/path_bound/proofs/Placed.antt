@@ -10,6 +10,7 @@ use Rattle.loop_nest.specs.declared.natural_loop.Loop.{Loop}
 use Rattle.loop_nest.specs.LoopNest.{is_head, HeadsRise}
 use Rattle.path_bound.specs.Places.{place_of, place_below, AreLoopsBelow}
 
+-- what is there is one
 pub some_one : {A : Type 0} {x y : A} → Some x ≡ Some y → x ≡ y
 some_one e = cc
 
@@ -22,6 +23,7 @@ pub record IsLoopAt (loops : List Loop) (place h : ℕ) : Type 0 where
   pub at : slice_get loops place ≡ Some one
   pub head : one.head ≡ h
 
+-- at the place of a head stands its loop
 pub place_reads : (loops : List Loop) (h : ℕ) → place_of loops h < length loops → IsLoopAt loops (place_of loops h) h
 place_reads [] h l = absurd (omega (arith, l))
 place_reads (one ∷ loops) h l = elim (tells (h == one.head)) [
@@ -43,6 +45,7 @@ place_first (l ∷ loops) (suc k) one e = most (one.head == l.head) (place_first
     most true r = omega arith
     most false r = omega (arith, r)
 
+-- the place of a loop's head is the loop's
 pub place_is : (loops : List Loop) → HeadsRise loops → (k : ℕ) (one : Loop) → slice_get loops k ≡ Some one → place_of loops one.head ≡ k
 place_is loops rise k one e =
     let m : place_of loops one.head ≤ k = place_first loops k one e in
@@ -53,6 +56,7 @@ place_is loops rise k one e =
       | inr l ↦ omega (arith, m, l)
     ]
 
+-- a node is a head exactly where it has a place among the loops
 pub head_place : (loops : List Loop) (h : ℕ) → is_head loops h ≡ ltb (place_of loops h) (length loops)
 head_place [] h = sym (le-ltb 0 0 (omega arith))
 head_place (one ∷ loops) h = elim (tells (h == one.head)) [
@@ -70,6 +74,7 @@ head_place (one ∷ loops) h = elim (tells (h == one.head)) [
       | inr l ↦ le-ltb a b l ∙ sym (le-ltb (suc a) (suc b) (omega (arith, l)))
     ]
 
+-- a place that is found below a count is the head's
 pub below_some : (loops : List Loop) (count h p : ℕ) → place_below loops count h ≡ Some p → (place_of loops h ≡ p) × (p < count)
 below_some loops count h p e = given (tells (ltb (place_of loops h) count))
   where
@@ -92,6 +97,7 @@ back_none loops h e = elim (tells (ltb (place_of loops h) (length loops))) [
   | inr t ↦ head_place loops h ∙ t
 ]
 
+-- a place that is found is that of a head
 pub back_some : (loops : List Loop) (h p : ℕ) → place_below loops (length loops) h ≡ Some p → is_head loops h ≡ true
 back_some loops h p e =
     let b : (place_of loops h ≡ p) × (p < length loops) = below_some loops (length loops) h p e in

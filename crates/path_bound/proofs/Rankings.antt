@@ -315,6 +315,7 @@ module _ (edge : ℕ → ℕ → Bool) (loops : Loops) (count : ℕ) (nodes done
         let g : has (filter (λ m. not (has order m)) nodes) n ≡ true = has_filter (λ m. not (has order m)) nodes n ∙ two_true (has nodes n) (not (has order n)) h (ap not t) in cc
   ]
 
+  -- the nodes that are ranked are in a forward order
   pub ranked_order : IsOrder edge loops (has nodes) order
   ranked_order = record {
     same = λ n. elim (tells (has nodes n)) [
@@ -328,12 +329,14 @@ module _ (edge : ℕ → ℕ → Bool) (loops : Loops) (count : ℕ) (nodes done
     before = is.before;
   }
 
+  -- in the end each node is placed
   pub ranked_all : (n : ℕ) → is_placed placed n ≡ true
   ranked_all n = elim (tells (has nodes n)) [
     | inl t ↦ is.placed_so n t ∙ all_there n t
     | inr t ↦ is.others n t
   ]
 
+  -- in the end no node waits
   pub ranked_quiet : (n : ℕ) → waits_for waiting n ≡ []
   ranked_quiet n = elim (tells (has nodes n)) [
     | inl t ↦ is.quiet n (inr (all n (all_there n t)))
@@ -413,6 +416,7 @@ grown_by order node = record {
   kept = λ k h. take-append-le k order (node ∷ []) h;
 }
 
+-- an order that grows goes on growing
 pub grown_on : (one two three : List ℕ) → HasGrown one two → HasGrown two three → HasGrown one three
 grown_on one two three a b = record {
   longer = omega (arith, a.longer, b.longer);

@@ -191,6 +191,7 @@ plain_on graph node count rows row e was = record {
     get_last [] x = refl
     get_last (y ∷ xs) x = get_last xs x
 
+-- each node has its edges with plain costs
 pub plain_done : (graph : List (List ℕ)) (node : List ℕ) (count : ℕ) (rows : List (Vec Step Global)) → count ≡ length graph → ArePlainUpTo graph node count rows
     → AreStepsOf graph (λ n m. cap (get_or node n 0)) rows
 plain_done graph node count rows e was = record {
@@ -217,6 +218,7 @@ steps_within graph cost rows within are n k step e = within n step.to (there (co
     there f (m ∷ nodes) zero e = let q : m ≡ step.to = ap (λ (s : Step). s.to) (some_step e) in ap (λ (b : Bool). b || has nodes step.to) (eq-eqb step.to m (sym q))
     there f (m ∷ nodes) (suc k) e = or_right (step.to == m) (has nodes step.to) (there f nodes k e)
 
+-- one extra cost more is added
 pub one_extra : (f : ℕ) (extra : List (ℕ × ℕ × ℕ)) (i n m : ℕ) (d : ℕ × ℕ × ℕ) → i < length extra
     → cap (f + extra_of (take i extra) n m + extra_at (get_or extra i d) n m) ≡ cap (f + extra_of (take (i + 1) extra) n m)
 one_extra f extra i n m d l =

@@ -21,9 +21,11 @@ some_eq e = cc
 
 module _ (graph : List (List ℕ)) (loops : List Loop) (bounds : List ℕ) (costs : Weights) (order : List ℕ) (ground : IsGround (task_of graph loops bounds costs) order)
     (k : ℕ) (l : k < length order) (at : ℕ) (here : get_or order k 0 ≡ at) (laps : List ℕ) (turns : List Turn) (was : AreTurnedUpTo (task_of graph loops bounds costs) loops order k laps turns) where
+  -- the next node is no head, and no turn is settled
   pub no_head : place_below loops (length loops) at ≡ None → AreTurnedUpTo (task_of graph loops bounds costs) loops order (k + 1) laps turns
   no_head e = turned_past (task_of graph loops bounds costs) loops order ground k laps turns l (ap (is_head loops) here ∙ back_none loops at e) was
 
+  -- the next node is a head, whose turn is settled
   pub head_taken : (place : ℕ) → place_below loops (length loops) at ≡ Some place → (steps : List (Vec Step Global)) → AreStepsOf graph (λ n m. cap ((costs_in costs).node n + (costs_in costs).edge n m)) steps
       → (new : List ℕ) (after : List Turn) → at < length laps → place < length turns
       → ((one : Loop) → slice_get loops place ≡ Some one → IsTaken (is_edge graph) (loops_in loops) one (get_or bounds place 0) place costs.node.items steps laps new turns after)

@@ -170,6 +170,7 @@ module _ (t : Task) (inside : ℕ → Bool) (order : List ℕ) (is : IsForwardOr
         of_one true o x e = refl
         of_one false o x e = cc
 
+    -- a label in the list is the true one, capped
     pub told_capped : (n : ℕ) → inside n ≡ true → IsCapped (label_at labels n) (labels_by t inside head costs size n)
     told_capped n i = capped_by (suc (rank n)) n (omega arith) i
 
@@ -219,6 +220,7 @@ module _ (t : Task) (inside : ℕ → Bool) (order : List ℕ) (is : IsForwardOr
         added : (c p a s z l : ℕ) → a ≡ min (s + z) l → min (min (min c l + p) l + a) l ≡ min (c + p + s + z) l
         added c p a s z l h = omega (arith, h)
 
+    -- a label leads along a walk of its cost
     pub trip_of : (rest : List ℕ) (n : ℕ) (one : Label) → inside n ≡ true → label_at labels n ≡ Some one → Leads labels n rest → next_of (label_at labels (end_of n rest)) ≡ None
         → IsTrip t inside head (λ m. get_or laps m 0) rank n rest one
     trip_of [] n one i e leads ends =

@@ -71,18 +71,21 @@ map_written [] k x h = refl
 map_written (y ∷ xs) zero x h = ap (λ (n : ℕ). n ∷ map (λ (one : Turn). one.head) xs) (h y refl)
 map_written (y ∷ xs) (suc k) x h = ap (λ (l : List ℕ). y.head ∷ l) (map_written xs k x h)
 
+-- the cost of a capped label is that of the true one, capped
 pub capped_cost : (o p : Option Label) → IsCapped o p → cost_of o ≡ cap (cost_of p)
 capped_cost None None c = refl
 capped_cost None (Some b) c = absurd c
 capped_cost (Some a) None c = absurd c
 capped_cost (Some a) (Some b) c = c
 
+-- where the true label is there, the capped one is
 pub capped_some : (o p : Option Label) (b : ℕ) → IsCapped o p → IsLabel p b → (a : Label) × (o ≡ Some a)
 capped_some None None b c l = let e : None ≡ Some l.one = l.is in cc
 capped_some None (Some x) b c l = absurd c
 capped_some (Some a) p b c l = (a, refl)
 
 module _ (t : Task) (loops : List Loop) (order : List ℕ) (ground : IsGround t order) where
+  -- each place in the order is below its size
   pub small : (n : ℕ) → rank_in order n < size_of order
   small n = let r : rank_in order n ≤ length order = rank_most order n in omega (arith, r)
 
@@ -95,6 +98,7 @@ module _ (t : Task) (loops : List Loop) (order : List ℕ) (ground : IsGround t 
       ∙ ap (λ (c : ℕ). cap c) (sym (laps_fixed t (rank_in order) (size_of order) small ground.falls ground.inner h
       ∙ ap (λ (b : Bool). cond b ((t.bound h - 1) * cost_of (labels_by t (t.loops.body h) (Some h) (laps_of t (size_of order)) (size_of order) h)) 0) a))))
 
+  -- a node that is no head has no laps
   pub no_laps : (n : ℕ) → t.loops.has n ≡ false → laps_of t (size_of order) n ≡ 0
   no_laps n o =
       laps_fixed t (rank_in order) (size_of order) small ground.falls ground.inner n
@@ -252,6 +256,7 @@ module _ (t : Task) (loops : List Loop) (order : List ℕ) (ground : IsGround t 
           even [] b = tt
           even (m ∷ rest) b = (sym (new_other m (lower_other m x (ltb-true (rank_in order m) (rank_in order x) b.0) (omega arith))), even rest b.1)
 
+      -- one turn more is settled
       pub turned_on : AreTurnedUpTo t loops order (i + 1) new after
       turned_on = record {
         heads = ap (λ (s : List Turn). map (λ (y : Turn). y.head) s) taken.turns ∙ (map_written turns place taken.turn taken.named ∙ was.heads);
