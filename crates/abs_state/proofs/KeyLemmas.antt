@@ -44,7 +44,8 @@ nat_exact a b e =
       | inr ge ↦
           elim (cases_eq a b) [
             | inl eq ↦ eq
-            | inr ne ↦ absurd (let t : nat_lt a b ≡ false = grind (arith, nat_tests) in let u : (a == b) ≡ false = grind (arith, nat_tests) in let f : Greater ≡ Equal = sym (rw (t, u) refl) ∙ e in cc)
+            | inr ne ↦ absurd (let t : nat_lt a b ≡ false = grind (arith, nat_tests) in let u : (a == b) ≡ false =
+                grind (arith, nat_tests) in let f : Greater ≡ Equal = sym (rw (t, u) refl) ∙ e in cc)
           ]
     ]
 

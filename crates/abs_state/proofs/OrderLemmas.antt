@@ -1,5 +1,6 @@
 -- The order and the ranks of states, and what it is to stand where thresholds are.
-use Rattle.std.proofs.Common.{◌≡◌, ℕ, ◌+◌, ◌*◌, ◌<◌, ◌≤◌, ◌⊎◌, inl, inr, ◌&&◌, Bool, true, false, List, [], ◌∷◌, length, refl, sym, ap, subst, ◌∙◌, arith, eq-eqb}
+use Rattle.std.proofs.Common.{◌≡◌, ℕ, ◌+◌, ◌*◌, ◌<◌, ◌≤◌, ◌⊎◌, inl, inr, ◌&&◌, Bool, true, false, List, [], ◌∷◌, length, refl, sym, ap, subst, ◌∙◌}
+use Rattle.std.proofs.Common.{arith, eq-eqb}
 use Rattle.std.specs.Prelude.{◌==◌, if◌then◌else◌}
 use Rattle.std.specs.List.{All, list_all}
 use Rattle.std.proofs.lemmas.Bool.{and_parts, and_from, cases_Bool, eqb-true, both_ways}
@@ -59,13 +60,15 @@ stands_state t s is =
 pub states_are_ordered : StatesAreOrdered
 states_are_ordered = record { same = same; onward = onward; both = both } where
   same : (t : List ℕ) (a : State) → is_state_over t a ≡ true → is_at_most a a ≡ true
-  same t a is = and_from (are_at_most a.cells a.cells) (flags_at_most a.flags a.flags) (cells_same t a.cells (stands t a is).over) (up_same a.flags a.flags refl)
+  same t a is = and_from (are_at_most a.cells a.cells) (flags_at_most a.flags a.flags) (cells_same t a.cells (stands t a is).over)
+      (up_same a.flags a.flags refl)
 
   onward : (a b c : State) → is_at_most a b ≡ true → is_at_most b c ≡ true → is_at_most a c ≡ true
   onward a b c one two =
       let first = and_parts (are_at_most a.cells b.cells) (flags_at_most a.flags b.flags) one in
       let second = and_parts (are_at_most b.cells c.cells) (flags_at_most b.flags c.flags) two in
-      and_from (are_at_most a.cells c.cells) (flags_at_most a.flags c.flags) (cells_onward a.cells b.cells c.cells first.0 second.0) (up_onward a.flags b.flags c.flags first.1 second.1)
+      and_from (are_at_most a.cells c.cells) (flags_at_most a.flags c.flags) (cells_onward a.cells b.cells c.cells first.0 second.0)
+      (up_onward a.flags b.flags c.flags first.1 second.1)
 
   both : (a b : State) → is_at_most a b ≡ true → is_at_most b a ≡ true → a ≡ b
   both a b one two =
@@ -81,26 +84,29 @@ unknown_rank f = if is_unknown f then 1 else 0
 
 ranks_up : (f g : Flags) → flags_at_most f g ≡ true → unknown_rank f ≤ unknown_rank g
 unfolding unknown_rank
-ranks_up f g up = elim (up_cases f g up) [ inl same ↦ (let e = ap unknown_rank same in omega arith) | inr none ↦ (let e = ap unknown_rank none in let m = few f in omega arith) ] where
-  few : (h : Flags) → unknown_rank h ≤ 1
-  few Unknown = omega arith
-  few (Cmp a b) = omega arith
-  few (Res c) = omega arith
+ranks_up f g up = elim (up_cases f g up)
+    [ inl same ↦ (let e = ap unknown_rank same in omega arith) | inr none ↦ (let e = ap unknown_rank none in let m = few f in omega arith) ] where
+      few : (h : Flags) → unknown_rank h ≤ 1
+      few Unknown = omega arith
+      few (Cmp a b) = omega arith
+      few (Res c) = omega arith
 
 -- flags that aren't at most the lesser ones have a greater rank
 ranks_rise : (f g : Flags) → flags_at_most f g ≡ true → flags_at_most g f ≡ false → unknown_rank f < unknown_rank g
 unfolding unknown_rank
-ranks_rise f g up down = elim (up_cases f g up) [ inl same ↦ absurd (both_ways (flags_at_most g f) down (up_same g f (sym same))) | inr none ↦ known f none down ] where
-  known : (h : Flags) → g ≡ Unknown → flags_at_most g h ≡ false → unknown_rank h < unknown_rank g
-  known Unknown none below = absurd (both_ways (flags_at_most g Unknown) below (up_same g Unknown none))
-  known (Cmp a b) none below = let e = ap unknown_rank none in omega arith
-  known (Res c) none below = let e = ap unknown_rank none in omega arith
+ranks_rise f g up down = elim (up_cases f g up)
+    [ inl same ↦ absurd (both_ways (flags_at_most g f) down (up_same g f (sym same))) | inr none ↦ known f none down ] where
+      known : (h : Flags) → g ≡ Unknown → flags_at_most g h ≡ false → unknown_rank h < unknown_rank g
+      known Unknown none below = absurd (both_ways (flags_at_most g Unknown) below (up_same g Unknown none))
+      known (Cmp a b) none below = let e = ap unknown_rank none in omega arith
+      known (Res c) none below = let e = ap unknown_rank none in omega arith
 
 -- a state that is above another one has a greater rank, and the thresholds limit all ranks
 pub states_rise : StatesRise
 unfolding unknown_rank
 states_rise = record { rises = rises; limit = limit } where
-  rises : (t : List ℕ) (a b : State) → is_state_over t a ≡ true → is_state_over t b ≡ true → is_at_most a b ≡ true → is_at_most b a ≡ false → rank t a < rank t b
+  rises : (t : List ℕ) (a b : State) → is_state_over t a ≡ true → is_state_over t b ≡ true → is_at_most a b ≡ true → is_at_most b a ≡ false
+      → rank t a < rank t b
   rises t a b left right up down =
       let parts = and_parts (are_at_most a.cells b.cells) (flags_at_most a.flags b.flags) up in
       elim (heights_rise t a.cells b.cells (stands t a left).over (stands t b right).over parts.0) [
@@ -118,7 +124,8 @@ states_rise = record { rises = rises; limit = limit } where
   limit : (t : List ℕ) (a : State) → is_state_over t a ≡ true → rank t a ≤ 48 * (128 + length t) + 1
   limit t a is =
       let s = stands t a is in
-      let most : heights t a.cells ≤ 48 * (128 + length t) = subst (λ (n : ℕ). heights t a.cells ≤ n * (128 + length t)) s.size (heights_bound t a.cells s.over) in
+      let most : heights t a.cells ≤ 48 * (128 + length t) =
+      subst (λ (n : ℕ). heights t a.cells ≤ n * (128 + length t)) s.size (heights_bound t a.cells s.over) in
       let flags = few a.flags in
       omega arith
     where

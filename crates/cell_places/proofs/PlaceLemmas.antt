@@ -1,5 +1,6 @@
 -- Where the cells of a frame stand among the registers, and what is read and written there.
-use Rattle.std.proofs.Common.{◌≡◌, ◌≢◌, ℕ, zero, suc, ◌+◌, ◌-◌, ◌*◌, ◌%◌, ◌^◌, ◌<◌, ◌≤◌, inl, inr, ◌&&◌, Bool, true, false, length, refl, sym, ap, subst, ◌∙◌, arith, cond, eqb}
+use Rattle.std.proofs.Common.{◌≡◌, ◌≢◌, ℕ, zero, suc, ◌+◌, ◌-◌, ◌*◌, ◌%◌, ◌^◌, ◌<◌, ◌≤◌, inl, inr, ◌&&◌, Bool, true, false, length, refl, sym, ap}
+use Rattle.std.proofs.Common.{subst, ◌∙◌, arith, cond, eqb}
 use Rattle.std.specs.Prelude.{◌==◌, nat_lt, slice_index, slice_set}
 use Rattle.std.proofs.lemmas.Bool.{cases_lt}
 use Rattle.std.proofs.lemmas.Bool.Decides.{nat_tests, eqb_tells}
@@ -182,7 +183,8 @@ written cwp depth m r value c at below within = elim (eqb_tells r 0) [
     elsewhere some = elim (eqb_tells c (cell_of depth r)) [
       | inl same ↦
           ap (λ (k : ℕ). content_of (put_at m r value) cwp k) same.1 ∙ here some
-          ∙ sym (ap (λ (k : ℕ). with_content (content_of m cwp) (cell_of depth r) value k) same.1 ∙ with_content-same (content_of m cwp) (cell_of depth r) value (cell_some some))
+          ∙ sym (ap (λ (k : ℕ). with_content (content_of m cwp) (cell_of depth r) value k) same.1
+          ∙ with_content-same (content_of m cwp) (cell_of depth r) value (cell_some some))
       | inr other ↦ others other.1 ∙ sym (with_content-other (content_of m cwp) (cell_of depth r) value c other.1)
     ]
 

@@ -1,5 +1,6 @@
 -- The numbers of code, gathered one address after the other.
-use Rattle.std.proofs.Common.{◌≡◌, ℕ, ℤ, ◌+◌, ◌%◌, ◌<◌, ◌≤◌, ◌^◌, ◌&&◌, if◌then◌else◌, IfSome, Bool, true, false, List, [], ◌++◌, Option, Some, None, MatchOption, Contains, refl, sym, ◌∙◌, subst, arith, eqb, is_some, inl, inr}
+use Rattle.std.proofs.Common.{◌≡◌, ℕ, ℤ, ◌+◌, ◌%◌, ◌<◌, ◌≤◌, ◌^◌, ◌&&◌, if◌then◌else◌, IfSome, Bool, true, false, List, [], ◌++◌, Option, Some, None}
+use Rattle.std.proofs.Common.{MatchOption, Contains, refl, sym, ◌∙◌, subst, arith, eqb, is_some, inl, inr}
 use Rattle.std.specs.Option.{option_map}
 use Rattle.std.proofs.lemmas.Bool.{cases_lt}
 use Rattle.bt_image.specs.Image.{is_code, held, word, IsNextCode, HasNoCodeFrom}

@@ -76,10 +76,16 @@ module _ (F : Contexts) (image costs : List ℕ) (first : Machine) (rest : List 
 
   -- and behind a step they are the frames there
   pub linked_after : (i : ℕ) (due : Transfer) (these : List Activation) (frames : List Frame) → AreLinked i these frames → ArePushes i due frames
-      → AreLinked (suc i) (stack_after F.family (run_of F image costs first rest) (move_of due) i these) (frames_after due (machine_at image first rest (suc i)) frames)
+      → AreLinked (suc i) (stack_after F.family (run_of F image costs first rest) (move_of due) i these)
+      (frames_after due (machine_at image first rest (suc i)) frames)
   linked_after i Stays [] [] linked push = tt
-  linked_after i Stays (a ∷ callers) (f ∷ below) linked push =
-      (record { standing = (linked.0).standing; start = (linked.0).start }, end_behind a.first a.later (suc i), linked.2, below_later i f callers below linked.3)
+  linked_after i Stays (a ∷ callers) (f ∷ below) linked push = (
+    record { standing = (linked.0).standing; start = (linked.0).start },
+    end_behind a.first a.later
+        (suc i),
+    linked.2,
+    below_later i f callers below linked.3,
+  )
   linked_after i (Calls target address) [] [] linked push = tt
   linked_after i (Calls target address) (a ∷ callers) (f ∷ below) linked push = (
     record {

@@ -1,5 +1,6 @@
 -- Forward walks, walks turned round, and the beginnings of walks.
-use Rattle.std.proofs.Common.{◌≡◌, ◌≢◌, ◌==◌, ◌&&◌, ◌||◌, ◌⊎◌, ℕ, zero, suc, ◌+◌, ◌<◌, ◌≤◌, inl, inr, Bool, true, false, not, List, [], ◌∷◌, ◌++◌, reverse, length, cond, refl, sym, ap, subst, ◌∙◌, arith, append_assoc}
+use Rattle.std.proofs.Common.{◌≡◌, ◌≢◌, ◌==◌, ◌&&◌, ◌||◌, ◌⊎◌, ℕ, zero, suc, ◌+◌, ◌<◌, ◌≤◌, inl, inr, Bool, true, false, not, List, [], ◌∷◌, ◌++◌}
+use Rattle.std.proofs.Common.{reverse, length, cond, refl, sym, ap, subst, ◌∙◌, arith, append_assoc}
 use Rattle.std.proofs.lemmas.Bool.{eq-eqb}
 use Rattle.std.proofs.lemmas.List.{reverse-append}
 use Rattle.std.proofs.lemmas.Bool.Decides.{eqb_tells}
@@ -7,7 +8,8 @@ use Rattle.bt_base.specs.Graph.{has}
 use Rattle.graph_laws.specs.Walk.{IsWalk, AreInside, end_of, Costs, cost_of}
 use Rattle.graph_laws.specs.Loops.{Loops, AreLoops, is_back, IsForward, KeepsBounds, CostAtMost, edges_inside, loops_inside}
 use Rattle.graph_laws.specs.Nest.{cut, Reaches, SamePart, IsHead, Nest, IsNest, loops_of, IsReached, AreReached}
-use Rattle.graph_laws.specs.Forward.{turned, WalksTurn, HasForwardNext, SetsHaveEnds, IsReachedForward, ReachedAreReachedForward, WalksBackStay, HasTurn, HeadsHaveTurns, AreEqual, EqualLoopsAreLoops, spent_of, SpentAddsUp, PrefixesSpendLess}
+use Rattle.graph_laws.specs.Forward.{turned, WalksTurn, HasForwardNext, SetsHaveEnds, IsReachedForward, ReachedAreReachedForward, WalksBackStay}
+use Rattle.graph_laws.specs.Forward.{HasTurn, HeadsHaveTurns, AreEqual, EqualLoopsAreLoops, spent_of, SpentAddsUp, PrefixesSpendLess}
 use Rattle.graph_laws.proofs.Inner.{inner_loops}
 use Rattle.graph_laws.proofs.Stretches.{tells, both}
 use Rattle.graph_laws.proofs.Walks.{walk-append, walk_front, walk_back, walk_of_more, inside-append}
@@ -95,7 +97,8 @@ record LeadsOn (edge : ℕ → ℕ → Bool) (loops : Loops) (from n : ℕ) : Ty
 nowhere : (edge : ℕ → ℕ → Bool) (loops : Loops) (n : ℕ) → LeadsOn edge loops n n
 nowhere edge loops n = record { rest = []; walk = tt; forward = tt; ends = refl }
 
-one_more : (edge : ℕ → ℕ → Bool) (loops : Loops) (from n m : ℕ) → LeadsOn edge loops from n → edge n m ≡ true → is_back loops n m ≡ false → LeadsOn edge loops from m
+one_more : (edge : ℕ → ℕ → Bool) (loops : Loops) (from n m : ℕ) → LeadsOn edge loops from n → edge n m ≡ true → is_back loops n m ≡ false
+    → LeadsOn edge loops from m
 one_more edge loops from n m l e f = record {
   rest = l.rest ++ m ∷ [];
   walk = walk-append edge from l.rest (m ∷ []) l.walk (ap (λ (x : ℕ). edge x m) l.ends ∙ e, tt);
@@ -145,7 +148,8 @@ or_right : (a b : Bool) → b ≡ true → (a || b) ≡ true
 or_right true b h = refl
 or_right false b h = h
 
-module _ (edge : ℕ → ℕ → Bool) (entry : ℕ) (nest : Nest) (is : IsNest edge entry nest) (nodes : List ℕ) (next : (n : ℕ) → has nodes n ≡ true → HasForwardNext edge (loops_of nest) nodes n) where
+module _ (edge : ℕ → ℕ → Bool) (entry : ℕ) (nest : Nest) (is : IsNest edge entry nest) (nodes : List ℕ)
+    (next : (n : ℕ) → has nodes n ≡ true → HasForwardNext edge (loops_of nest) nodes n) where
   -- a forward walk doesn't come back to a node
   not_back : (n m : ℕ) → LeadsOn edge (loops_of nest) m n → edge n m ≡ true → is_back (loops_of nest) n m ≡ false → ⊥
   not_back n m l e f =
@@ -199,7 +203,8 @@ sets_end edge entry nest is nodes next n = elim (tells (has nodes n)) [
     or_false false h = h
 
 -- a forward walk that ends in a body and begins outside it comes to its head
-come_in : (edge : ℕ → ℕ → Bool) (entry : ℕ) (loops : Loops) → AreLoops edge entry loops → (h n : ℕ) (rest : List ℕ) → loops.has h ≡ true → loops.body h n ≡ false
+come_in : (edge : ℕ → ℕ → Bool) (entry : ℕ) (loops : Loops) → AreLoops edge entry loops → (h n : ℕ) (rest : List ℕ) → loops.has h ≡ true
+    → loops.body h n ≡ false
     → IsWalk edge n rest → IsForward loops n rest → loops.body h (end_of n rest) ≡ true → LeadsOn edge loops n h
 come_in edge entry loops are h n [] a o w f i = cc
 come_in edge entry loops are h n (m ∷ rest) a o w f i = elim (tells (loops.body h m)) [
@@ -211,7 +216,8 @@ come_in edge entry loops are h n (m ∷ rest) a o w f i = elim (tells (loops.bod
       record { rest = m ∷ l.rest; walk = (w.0, l.walk); forward = (f.0, l.forward); ends = l.ends }
 ]
 
-forward_on : (edge : ℕ → ℕ → Bool) (entry : ℕ) (loops : Loops) → AreLoops edge entry loops → (n : ℕ) (rest : List ℕ) → LeadsOn edge loops entry n → IsWalk edge n rest
+forward_on : (edge : ℕ → ℕ → Bool) (entry : ℕ) (loops : Loops) → AreLoops edge entry loops → (n : ℕ) (rest : List ℕ) → LeadsOn edge loops entry n
+    → IsWalk edge n rest
     → LeadsOn edge loops entry (end_of n rest)
 forward_on edge entry loops are n [] l w = l
 forward_on edge entry loops are n (m ∷ rest) l w = elim (tells (is_back loops n m)) [
@@ -238,9 +244,11 @@ walks_stay edge entry nest is h n between a i w =
     stays_inside edge entry nest is h n h between a p.there w (is.chain h a).2.entered.inside.there
 
 -- walks inside a body
-inside_walk : (edge : ℕ → ℕ → Bool) (body : ℕ → Bool) (n : ℕ) (rest : List ℕ) → body n ≡ true → IsWalk edge n rest → AreInside body rest → IsWalk (edges_inside edge body) n rest
+inside_walk : (edge : ℕ → ℕ → Bool) (body : ℕ → Bool) (n : ℕ) (rest : List ℕ) → body n ≡ true → IsWalk edge n rest → AreInside body rest
+    → IsWalk (edges_inside edge body) n rest
 inside_walk edge body n [] b w i = tt
-inside_walk edge body n (m ∷ rest) b w i = (two_true (edge n m) (body n && body m) w.0 (two_true (body n) (body m) b i.0), inside_walk edge body m rest i.0 w.1 i.1)
+inside_walk edge body n (m ∷ rest) b w i =
+    (two_true (edge n m) (body n && body m) w.0 (two_true (body n) (body m) b i.0), inside_walk edge body m rest i.0 w.1 i.1)
 
 walk_inside : (edge : ℕ → ℕ → Bool) (body : ℕ → Bool) (n : ℕ) (rest : List ℕ) → IsWalk (edges_inside edge body) n rest → AreInside body rest
 walk_inside edge body n [] w = tt
@@ -264,7 +272,8 @@ heads_turn edge entry nest is reached h a =
     let here : nest.body h h ≡ true = head_inside edge entry nest is h a in
     let between : List ℕ = itself.there.between in
     let stay : AreInside (nest.body h) between = walks_stay edge entry nest is h h between a here itself.there.walk in
-    let w : IsWalk edge h (between ++ h ∷ []) = walk_of_more (cut edge (nest.outer h)) edge (cut_edge edge (nest.outer h)) h (between ++ h ∷ []) itself.there.walk in
+    let w : IsWalk edge h (between ++ h ∷ []) =
+    walk_of_more (cut edge (nest.outer h)) edge (cut_edge edge (nest.outer h)) h (between ++ h ∷ []) itself.there.walk in
     let r : IsReached (edges_inside edge (nest.body h)) h (end_of h between) =
     record { rest = between; walk = inside_walk edge (nest.body h) h between here (walk_front edge h between (h ∷ []) w) stay; ends = refl } in
     let f : IsReachedForward (edges_inside edge (nest.body h)) (loops_inside loops h) h (end_of h between) =

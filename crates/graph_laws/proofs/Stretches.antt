@@ -151,7 +151,8 @@ held_from_keeps loops bound (n ∷ rest) k = (
   held_from_keeps loops bound rest (keeps_tail loops bound n rest k),
 )
 
-held_at : (loops : Loops) (bound : ℕ → ℕ) (h : ℕ) (before stretch after : List ℕ) → loops.has h ≡ true → IsHeld loops bound (before ++ (stretch ++ after)) → AreInside (loops.body h) stretch → passes h stretch ≤ bound h
+held_at : (loops : Loops) (bound : ℕ → ℕ) (h : ℕ) (before stretch after : List ℕ) → loops.has h ≡ true
+    → IsHeld loops bound (before ++ (stretch ++ after)) → AreInside (loops.body h) stretch → passes h stretch ≤ bound h
 held_at loops bound h [] [] after has k i = omega arith
 held_at loops bound h [] (x ∷ xs) after has k i =
     let a : passes h (x ∷ xs) ≤ first (loops.body h) h ((x ∷ xs) ++ after) = passes_first (loops.body h) h (x ∷ xs) after i in
@@ -160,7 +161,8 @@ held_at loops bound h (b ∷ before) stretch after has k i = held_at loops bound
 
 -- a walk whose stretches are bounded one by one keeps the head bounds
 pub keeps_from_held : (loops : Loops) (bound : ℕ → ℕ) (walk : List ℕ) → IsHeld loops bound walk → KeepsBounds loops bound walk
-keeps_from_held loops bound walk k = record { kept = λ h before stretch after has e i. held_at loops bound h before stretch after has (subst (IsHeld loops bound) (sym e) k) i }
+keeps_from_held loops bound walk k = record
+    { kept = λ h before stretch after has e i. held_at loops bound h before stretch after has (subst (IsHeld loops bound) (sym e) k) i }
 
 -- the front of such a walk is one
 pub held_front : (loops : Loops) (bound : ℕ → ℕ) (xs ys : List ℕ) → IsHeld loops bound (xs ++ ys) → IsHeld loops bound xs
@@ -197,11 +199,13 @@ first_inside body h (x ∷ xs) ys i =
 
 -- two walks one after the other are held where each head is not passed in the one or in the other
 pub held-append : (loops : Loops) (bound : ℕ → ℕ) (xs ys : List ℕ) → IsHeld loops bound xs → IsHeld loops bound ys
-    → ((h : ℕ) → loops.has h ≡ true → (first (loops.body h) h ys ≡ 0) ⊎ ((passes h xs ≡ 0) × (first (loops.body h) h ys ≤ bound h))) → IsHeld loops bound (xs ++ ys)
+    → ((h : ℕ) → loops.has h ≡ true → (first (loops.body h) h ys ≡ 0) ⊎ ((passes h xs ≡ 0) × (first (loops.body h) h ys ≤ bound h)))
+    → IsHeld loops bound (xs ++ ys)
 held-append loops bound [] ys a b c = b
 held-append loops bound (x ∷ xs) ys a b c = (
   (λ h has.
-      let f : first (loops.body h) h ((x ∷ xs) ++ ys) ≤ first (loops.body h) h (x ∷ xs) + first (loops.body h) h ys = first-append (loops.body h) h (x ∷ xs) ys in
+      let f : first (loops.body h) h ((x ∷ xs) ++ ys) ≤ first (loops.body h) h (x ∷ xs) + first (loops.body h) h ys =
+      first-append (loops.body h) h (x ∷ xs) ys in
       elim (c h has) [
         | inl z ↦ let g : first (loops.body h) h (x ∷ xs) ≤ bound h = a.0 h has in omega (arith, f, g, z)
         | inr p ↦

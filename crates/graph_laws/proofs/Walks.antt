@@ -56,6 +56,7 @@ end_inside body n [] b i = b
 end_inside body n (x ∷ xs) b i = end_inside body x xs i.0 i.1
 
 -- a walk of one graph is one of another that has its edges
-pub walk_of_more : (edge more : ℕ → ℕ → Bool) → ((n m : ℕ) → edge n m ≡ true → more n m ≡ true) → (n : ℕ) (rest : List ℕ) → IsWalk edge n rest → IsWalk more n rest
+pub walk_of_more : (edge more : ℕ → ℕ → Bool) → ((n m : ℕ) → edge n m ≡ true → more n m ≡ true) → (n : ℕ) (rest : List ℕ) → IsWalk edge n rest
+    → IsWalk more n rest
 walk_of_more edge more h n [] w = tt
 walk_of_more edge more h n (m ∷ rest) w = (h n m w.0, walk_of_more edge more h m rest w.1)

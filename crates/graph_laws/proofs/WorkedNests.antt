@@ -4,7 +4,8 @@ use Rattle.bt_base.specs.Graph.{has}
 use Rattle.graph_laws.specs.Walk.{IsWalk}
 use Rattle.graph_laws.specs.Loops.{AreLoops}
 use Rattle.graph_laws.specs.Nest.{cut, Reaches, SamePart, InScope, ComesFromOutside, IsEntered, IsHead, IsChain, HasHead, loops_of, AreReached}
-use Rattle.graph_laws.specs.Worked.{below_two, nested, below_three, one_or_two, nested_body, nested_outer, nested_nest, NestedLoopsHaveANest, two_ways, TwoWaysHaveNoNest}
+use Rattle.graph_laws.specs.Worked.{below_two, nested, below_three, one_or_two, nested_body, nested_outer, nested_nest, NestedLoopsHaveANest}
+use Rattle.graph_laws.specs.Worked.{two_ways, TwoWaysHaveNoNest}
 use Rattle.graph_laws.specs.WorkedNests.{NestedLoopsAreLoops, InnerLoopIsALoop, NestedLoopsUnwind, InnerLoopIsAPart, NestedLoopsHaveOneNest, InnerBodyIsEntered}
 use Rattle.graph_laws.proofs.Inner.{inner_loops}
 use Rattle.graph_laws.proofs.Nests.{part-sym, part-trans, cut_edge, end_free, nests_loops, nests_unwound, parts_inside, one_nest, no_nest, reached_entered}
@@ -30,7 +31,10 @@ nested_from (suc (suc (suc n))) m e = cc
 
 -- the outer part
 outer_whole : SamePart (cut nested []) 0 0
-outer_whole = record { there = record { between = 1 ∷ 2 ∷ []; walk = (refl, (refl, (refl, tt))) }; back = record { between = 1 ∷ 2 ∷ []; walk = (refl, (refl, (refl, tt))) } }
+outer_whole = record {
+  there = record { between = 1 ∷ 2 ∷ []; walk = (refl, (refl, (refl, tt))) };
+  back = record { between = 1 ∷ 2 ∷ []; walk = (refl, (refl, (refl, tt))) };
+}
 
 in_outer : (n : ℕ) → below_three n ≡ true → SamePart (cut nested []) 0 n
 in_outer zero i = outer_whole
@@ -51,7 +55,8 @@ outer_head x i =
   where
     only : (x : ℕ) → below_three x ≡ true → (n : ℕ) → (n ≡ 0) ⊎ ComesFromOutside nested [] x n → n ≡ 0
     only x i n (inl e) = e
-    only x i n (inr c) = absurd (c.outside (part-trans (cut nested []) x 0 c.from (part-sym (cut nested []) 0 x (in_outer x i)) (in_outer c.from (nested_from c.from n c.leads))))
+    only x i n (inr c) = absurd (c.outside
+        (part-trans (cut nested []) x 0 c.from (part-sym (cut nested []) 0 x (in_outer x i)) (in_outer c.from (nested_from c.from n c.leads))))
 
 -- the inner part
 inner_whole : SamePart (cut nested (0 ∷ [])) 1 1
@@ -76,7 +81,9 @@ inner_only : (x : ℕ) → one_or_two x ≡ true → (n : ℕ) → one_or_two n 
 inner_only x i zero j c = cc
 inner_only x i (suc zero) j c = refl
 inner_only x i (suc (suc zero)) j (inl e) = cc
-inner_only x i (suc (suc zero)) j (inr c) = absurd (c.outside (part-trans (cut nested (0 ∷ [])) x 1 c.from (part-sym (cut nested (0 ∷ [])) 1 x (in_inner x i)) (in_inner c.from (into_two c.from c.leads))))
+inner_only x i (suc (suc zero)) j (inr c) =
+    absurd (c.outside (part-trans (cut nested (0 ∷ [])) x 1 c.from (part-sym (cut nested (0 ∷ [])) 1 x (in_inner x i))
+    (in_inner c.from (into_two c.from c.leads))))
   where
     into_two : (n : ℕ) → nested n 2 ≡ true → one_or_two n ≡ true
     into_two zero e = cc

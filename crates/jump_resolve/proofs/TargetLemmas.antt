@@ -1,5 +1,6 @@
 -- Targets: what the list has, and when it is whole.
-use Rattle.std.proofs.Common.{◌≡◌, ℕ, suc, ◌+◌, ◌*◌, ◌/◌, ◌%◌, ◌^◌, ◌<◌, ◌≤◌, ◌⊎◌, inl, inr, ◌&&◌, ◌||◌, Bool, true, false, eqb, cond, List, [], ◌∷◌, refl, sym, ap, subst, ◌∙◌, arith, Decides, Contains, eq-eqb, ⊎_elim}
+use Rattle.std.proofs.Common.{◌≡◌, ℕ, suc, ◌+◌, ◌*◌, ◌/◌, ◌%◌, ◌^◌, ◌<◌, ◌≤◌, ◌⊎◌, inl, inr, ◌&&◌, ◌||◌, Bool, true, false, eqb, cond, List, [], ◌∷◌}
+use Rattle.std.proofs.Common.{refl, sym, ap, subst, ◌∙◌, arith, Decides, Contains, eq-eqb, ⊎_elim}
 use Rattle.std.specs.Prelude.{◌==◌, ◌↔◌, ℤ, not, filter}
 use Rattle.std.specs.Bool.{one_answer}
 use Rattle.std.specs.List.{All}
@@ -55,7 +56,8 @@ list_rises image v candidates = words_rise (2 ^ 32) (is_target image v candidate
 pub in_list : (image : List ℕ) (v : Value) (candidates : List ℕ) (a : ℕ) → Contains (target_list image v candidates) a → IsTarget image v candidates a
 unfolding target_list
 in_list image v candidates a there =
-    let below : a < 2 ^ 32 = All-contains (λ w. w < 2 ^ 32) (words_below (2 ^ 32) (is_target image v candidates)) a (words_fit (2 ^ 32) (is_target image v candidates)) there in
+    let below : a < 2 ^ 32 = All-contains (λ w. w < 2 ^ 32) (words_below (2 ^ 32) (is_target image v candidates)) a
+    (words_fit (2 ^ 32) (is_target image v candidates)) there in
     let parts = and_parts (is_member eqb candidates a) (may_go image v a) (words_pass (2 ^ 32) (is_target image v candidates) a there) in
     let goes = and_parts (may_have v a) (is_code image a) parts.1 in
     record { word = below; candidate = (member_decides candidates a).0 parts.0; code = goes.1; may = (may_have_decides v a below).0 goes.0 }
@@ -65,7 +67,8 @@ pub is_in_list : (image : List ℕ) (v : Value) (candidates : List ℕ) (a : ℕ
 unfolding target_list
 is_in_list image v candidates a is =
     passing_is_there (2 ^ 32) (is_target image v candidates) a is.word
-    (and_from (is_member eqb candidates a) (may_go image v a) ((member_decides candidates a).1 is.candidate) (and_from (may_have v a) (is_code image a) ((may_have_decides v a is.word).1 is.may) is.code))
+    (and_from (is_member eqb candidates a) (may_go image v a) ((member_decides candidates a).1 is.candidate)
+    (and_from (may_have v a) (is_code image a) ((may_have_decides v a is.word).1 is.may) is.code))
 
 not_true : (b : Bool) → not b ≡ true → b ≡ false
 not_true true e = absurd (false≢true e)
@@ -100,8 +103,13 @@ whole_decides v list = (there, back) where
 -- the list has exactly the candidates that the value may be and that are code, rising, and it is whole exactly where it
 -- is asserted or has each multiple of 4 that the value may be
 pub targets_are_exact : TargetsAreExact
-targets_are_exact = record { rising = λ image v candidates asserted. list_rises image v candidates; list = λ image v candidates asserted a. (in_list image v candidates a, is_in_list image v candidates a); whole = whole } where
-  whole : (image : List ℕ) (v : Value) (candidates : List ℕ) (asserted : Bool) → ((targets image v candidates asserted).whole ≡ true) ↔ ((asserted ≡ true) ⊎ HasEach v (targets image v candidates asserted).list)
+targets_are_exact = record {
+  rising = λ image v candidates asserted. list_rises image v candidates;
+  list = λ image v candidates asserted a. (in_list image v candidates a, is_in_list image v candidates a);
+  whole = whole;
+} where
+  whole : (image : List ℕ) (v : Value) (candidates : List ℕ) (asserted : Bool)
+      → ((targets image v candidates asserted).whole ≡ true) ↔ ((asserted ≡ true) ⊎ HasEach v (targets image v candidates asserted).list)
   whole image v candidates true = (λ e. inl refl, λ e. refl)
   whole image v candidates false = (
     λ e. inr ((whole_decides v (target_list image v candidates)).0 e),
@@ -114,12 +122,14 @@ more v u a below up may = let there : AreOrdered v u = ordered v u up in may_hav
 -- a value that may be more goes to more targets, and is whole no sooner
 pub targets_rise : TargetsRise
 targets_rise = record { list = list; whole = whole } where
-  list : (image : List ℕ) (v u : Value) (candidates : List ℕ) (asserted : Bool) (a : ℕ) → is_at_most v u ≡ true → Contains (targets image v candidates asserted).list a → Contains (targets image u candidates asserted).list a
+  list : (image : List ℕ) (v u : Value) (candidates : List ℕ) (asserted : Bool) (a : ℕ) → is_at_most v u ≡ true
+      → Contains (targets image v candidates asserted).list a → Contains (targets image u candidates asserted).list a
   list image v u candidates asserted a up there =
       let is = in_list image v candidates a there in
       is_in_list image u candidates a (record { word = is.word; candidate = is.candidate; code = is.code; may = more v u a is.word up is.may })
 
-  whole : (image : List ℕ) (v u : Value) (candidates : List ℕ) (asserted : Bool) → is_at_most v u ≡ true → (targets image u candidates asserted).whole ≡ true → (targets image v candidates asserted).whole ≡ true
+  whole : (image : List ℕ) (v u : Value) (candidates : List ℕ) (asserted : Bool) → is_at_most v u ≡ true
+      → (targets image u candidates asserted).whole ≡ true → (targets image v candidates asserted).whole ≡ true
   whole image v u candidates true up e = refl
   whole image v u candidates false up e =
       let each = (whole_decides u (target_list image u candidates)).0 e in
@@ -133,7 +143,9 @@ targets_are_few image v candidates asserted =
     length_rising_in (target_list image v candidates) candidates (list_rises image v candidates) (λ a there. (in_list image v candidates a there).candidate)
 
 -- the list that the code makes
-pub made_list : (image : List ℕ) (v : Value) (candidates list : List ℕ) → All (λ a. a < 2 ^ 32) candidates → IsStrictlyIncreasing list → ((a : ℕ) → Contains (filter (may_go image v) candidates) a → Contains list a) → ((a : ℕ) → Contains list a → Contains (filter (may_go image v) candidates) a) → list ≡ target_list image v candidates
+pub made_list : (image : List ℕ) (v : Value) (candidates list : List ℕ) → All (λ a. a < 2 ^ 32) candidates → IsStrictlyIncreasing list
+    → ((a : ℕ) → Contains (filter (may_go image v) candidates) a → Contains list a)
+    → ((a : ℕ) → Contains list a → Contains (filter (may_go image v) candidates) a) → list ≡ target_list image v candidates
 made_list image v candidates list fits rising keeps adds =
     same_rising list (target_list image v candidates) rising (list_rises image v candidates)
     (λ a there.
@@ -147,10 +159,12 @@ made_list image v candidates list fits rising keeps adds =
     keeps a (kept_by (may_go image v) candidates a is.candidate (and_from (may_have v a) (is_code image a) ((may_have_decides v a is.word).1 is.may) is.code)))
 
 -- the code's questions are the same as whether the list is whole
-pub whole_words : (words list : List ℕ) (r : Bool) → All (λ w. w < 2 ^ 32) words → Decides r ((w : ℕ) → Contains words w → w % 4 ≡ 0 → Contains list w) → r ≡ is_whole (Words words) list
+pub whole_words : (words list : List ℕ) (r : Bool) → All (λ w. w < 2 ^ 32) words
+    → Decides r ((w : ℕ) → Contains words w → w % 4 ≡ 0 → Contains list w) → r ≡ is_whole (Words words) list
 whole_words words list r fits decides =
     one_answer r (is_whole (Words words) list) decides (
-      λ e w there aligned. (whole_decides (Words words) list).0 e w (All-contains (λ x. x < 2 ^ 32) words w fits there) aligned (record { address = 0; fits = omega arith; has = there }),
+      λ e w there aligned. (whole_decides (Words words) list).0 e w (All-contains (λ x. x < 2 ^ 32) words w fits there) aligned
+          (record { address = 0; fits = omega arith; has = there }),
       λ each. (whole_decides (Words words) list).1 (λ a below aligned may. each a may.has aligned),
     )
 
@@ -159,14 +173,16 @@ module _ (list : List ℕ) (r : Bool) where
   quarter a below aligned = omega arith
 
   -- a list with each multiple of 4 between the ends is whole for the range
-  pub whole_range : (lo hi : ℤ) → rank_of hi < 2 ^ 32 → Decides r ((q : ℕ) → rank_of lo ≤ 4 * q → 4 * q ≤ rank_of hi → Contains list (word_at (4 * q))) → r ≡ is_whole (Range lo hi) list
+  pub whole_range : (lo hi : ℤ) → rank_of hi < 2 ^ 32
+      → Decides r ((q : ℕ) → rank_of lo ≤ 4 * q → 4 * q ≤ rank_of hi → Contains list (word_at (4 * q))) → r ≡ is_whole (Range lo hi) list
   whole_range lo hi fits decides =
       one_answer r (is_whole (Range lo hi) list) decides (
         λ e q low high.
             let word : word_at (4 * q) < 2 ^ 32 = omega arith in
             let at : place_of (word_at (4 * q)) ≡ 4 * q = omega arith in
             let aligned : word_at (4 * q) % 4 ≡ 0 = omega arith in
-            (whole_decides (Range lo hi) list).0 e (word_at (4 * q)) word aligned (record { address = 0; fits = omega arith; has = (omega arith, omega arith) }),
+            (whole_decides (Range lo hi) list).0 e (word_at (4 * q)) word aligned
+            (record { address = 0; fits = omega arith; has = (omega arith, omega arith) }),
         λ each. (whole_decides (Range lo hi) list).1 (λ a below aligned may.
             let has = may.has in
             let four : 4 * (place_of a / 4) ≡ place_of a = omega arith in
@@ -186,11 +202,13 @@ module _ (list : List ℕ) (r : Bool) where
       )
 
 -- a list that lacks one doesn't have each
-pub lacks : (list : List ℕ) (low high q : ℕ) (r : Bool) → r ≡ false → Decides r (Contains list (word_at (4 * q))) → low ≤ 4 * q → 4 * q ≤ high → Decides false ((k : ℕ) → low ≤ 4 * k → 4 * k ≤ high → Contains list (word_at (4 * k)))
+pub lacks : (list : List ℕ) (low high q : ℕ) (r : Bool) → r ≡ false → Decides r (Contains list (word_at (4 * q))) → low ≤ 4 * q → 4 * q ≤ high
+    → Decides false ((k : ℕ) → low ≤ 4 * k → 4 * k ≤ high → Contains list (word_at (4 * k)))
 lacks list low high q r none decides above below = (λ e. absurd (false≢true e), λ each. absurd (both_ways r none (decides.1 (each q above below))))
 
 -- a list that has one more
-pub one_more : (list : List ℕ) (low q : ℕ) (r : Bool) → r ≡ true → Decides r (Contains list (word_at (4 * q))) → ((k : ℕ) → low ≤ 4 * k → k < q → Contains list (word_at (4 * k))) → (k : ℕ) → low ≤ 4 * k → k < q + 1 → Contains list (word_at (4 * k))
+pub one_more : (list : List ℕ) (low q : ℕ) (r : Bool) → r ≡ true → Decides r (Contains list (word_at (4 * q)))
+    → ((k : ℕ) → low ≤ 4 * k → k < q → Contains list (word_at (4 * k))) → (k : ℕ) → low ≤ 4 * k → k < q + 1 → Contains list (word_at (4 * k))
 one_more list low q r some decides before k above below =
     elim (cases_lt k q) [
       | inl lt ↦ before k above lt

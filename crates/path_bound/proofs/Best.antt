@@ -1,5 +1,6 @@
 -- The greatest of what the steps from a node ask: at least each, one of them, and the same where all ask the same.
-use Rattle.std.proofs.Common.{◌≡◌, ◌==◌, ◌||◌, ◌⊎◌, ℕ, ◌<◌, ◌≤◌, inl, inr, Bool, true, false, Option, Some, None, List, [], ◌∷◌, cond, refl, sym, ap, ◌∙◌, arith, ltb}
+use Rattle.std.proofs.Common.{◌≡◌, ◌==◌, ◌||◌, ◌⊎◌, ℕ, ◌<◌, ◌≤◌, inl, inr, Bool, true, false, Option, Some, None, List, [], ◌∷◌, cond, refl, sym, ap}
+use Rattle.std.proofs.Common.{◌∙◌, arith, ltb}
 use Rattle.std.proofs.lemmas.Bool.{eq-eqb, ltb-true, ltb-false}
 use Rattle.std.proofs.lemmas.Bool.Decides.{eqb_tells}
 use Rattle.bt_base.specs.Graph.{has}
@@ -74,8 +75,14 @@ module _ (cut : ℕ → ℕ) (head : Option ℕ) (laps : ℕ → ℕ) (label : �
   best_start [] start c l = l
   best_start (m ∷ nodes) start c l =
       best_start nodes (greater start (asked cut head laps label (step_to cost m))) c
-      (let g : IsLabel (greater (Some l.one) (asked cut head laps label (step_to cost m))) l.one.cost = greater_old l.one (asked cut head laps label (step_to cost m)) in
-      let h : IsLabel (greater start (asked cut head laps label (step_to cost m))) l.one.cost = record { one = g.one; is = ap (λ (o : Option Label). greater o (asked cut head laps label (step_to cost m))) l.is ∙ g.is; least = g.least } in
+      (let g : IsLabel (greater (Some l.one) (asked cut head laps label (step_to cost m))) l.one.cost =
+      greater_old l.one (asked cut head laps label (step_to cost m)) in
+      let h : IsLabel (greater start (asked cut head laps label (step_to cost m))) l.one.cost =
+      record {
+        one = g.one;
+        is = ap (λ (o : Option Label). greater o (asked cut head laps label (step_to cost m))) l.is ∙ g.is;
+        least = g.least;
+      } in
       more (greater start (asked cut head laps label (step_to cost m))) c l.one.cost l.least h)
 
   -- and what each node asks

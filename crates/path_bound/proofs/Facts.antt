@@ -25,7 +25,8 @@ edge_from graph n m e = elim (cases_lt n (length graph)) [
   | inr l ↦ let f : has [] m ≡ true = ap (λ (x : List ℕ). has x m) (sym (get_or_past graph n [] l)) ∙ e in cc
 ]
 
-module _ (graph : List (List ℕ)) (entry : ℕ) (loops : List Loop) (is : IsLoopNest (is_edge graph) entry loops) (all : (n : ℕ) → n < length graph → IsReached (is_edge graph) entry n) where
+module _ (graph : List (List ℕ)) (entry : ℕ) (loops : List Loop) (is : IsLoopNest (is_edge graph) entry loops)
+    (all : (n : ℕ) → n < length graph → IsReached (is_edge graph) entry n) where
   -- the loop of a head stands at its place
   pub loop_at : (h : ℕ) → is_head loops h ≡ true → IsLoopAt loops (place_of loops h) h
   loop_at h a = place_reads loops h (ltb-true (place_of loops h) (length loops) (sym (head_place loops h) ∙ a))
@@ -56,13 +57,15 @@ module _ (graph : List (List ℕ)) (entry : ℕ) (loops : List Loop) (is : IsLoo
   -- forward walks end
   pub ends : HaveEnds (is_edge graph) (loops_in loops)
   ends nodes next n = sets_end (is_edge graph) entry is.nest is.is nodes
-      (λ k h. let f : HasForwardNext (is_edge graph) (loops_in loops) nodes k = next k h in record { next = f.next; leads = f.leads; forward = same_back k f.next ∙ f.forward; inside = f.inside }) n
+      (λ k h. let f : HasForwardNext (is_edge graph) (loops_in loops) nodes k =
+      next k h in record { next = f.next; leads = f.leads; forward = same_back k f.next ∙ f.forward; inside = f.inside }) n
 
   -- the nodes of a body are reached inside it
   pub reach : (h n : ℕ) → (loops_in loops).has h ≡ true → (loops_in loops).body h n ≡ true → IsReachedInside (is_edge graph) (loops_in loops) h n
   reach h n a b =
       let c : is.nest.has h ≡ true = is.heads h ∙ a in
-      let r : IsReachedInside (is_edge graph) (loops_of is.nest) h n = reached_inside (is_edge graph) entry is.nest is.is reached h n c (equal.body h n c ∙ b) in
+      let r : IsReachedInside (is_edge graph) (loops_of is.nest) h n =
+      reached_inside (is_edge graph) entry is.nest is.is reached h n c (equal.body h n c ∙ b) in
       record { rest = r.rest; walk = r.walk; forward = on h r.rest r.forward; stays = inside c r.rest r.stays; ends = r.ends }
     where
       on : (k : ℕ) (rest : List ℕ) → IsForward (loops_of is.nest) k rest → IsForward (loops_in loops) k rest

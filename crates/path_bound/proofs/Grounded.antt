@@ -14,7 +14,8 @@ use Rattle.path_bound.proofs.Facts.{edge_from, loop_at, are_loops, reach, below,
 use Rattle.path_bound.proofs.Ordered.{order_falls, body_below, forward_order}
 use Rattle.path_bound.proofs.Placed.{IsLoopAt}
 
-module _ (graph : List (List ℕ)) (entry : ℕ) (loops : List Loop) (bounds : List ℕ) (costs : Weights) (graph_is : IsGraph graph) (is : IsLoopNest (is_edge graph) entry loops)
+module _ (graph : List (List ℕ)) (entry : ℕ) (loops : List Loop) (bounds : List ℕ) (costs : Weights) (graph_is : IsGraph graph)
+    (is : IsLoopNest (is_edge graph) entry loops)
     (all : (n : ℕ) → n < length graph → IsReached (is_edge graph) entry n) (nodes : List ℕ) (are_nodes : AreNodes (length graph) nodes)
     (order : List ℕ) (sorted : IsOrder (is_edge graph) (loops_in loops) (has nodes) order) where
   -- both ends of an edge are nodes
@@ -39,7 +40,8 @@ module _ (graph : List (List ℕ)) (entry : ℕ) (loops : List Loop) (bounds : L
   pub ground : IsGround (task_of graph loops bounds costs) order
   ground = record {
     falls = λ n m e f. let b = edge_nodes n m e in order_falls (is_edge graph) (loops_in loops) (has nodes) order sorted n m b.0 b.1 e f;
-    inner = λ h m a b ne. body_below (is_edge graph) (loops_in loops) (has nodes) order sorted (reach graph entry loops is all) body_nodes h m a (head_node h a) b ne;
+    inner = λ h m a b ne. body_below (is_edge graph) (loops_in loops) (has nodes) order sorted (reach graph entry loops is all) body_nodes h m a
+        (head_node h a) b ne;
     forward = λ h list a s. forward_order (is_edge graph) (loops_in loops) ((loops_in loops).body h) list s (reach graph entry loops is all)
         (λ k n b i j. elim (eqb_tells k h) [
           | inl q ↦ ap (λ (x : ℕ). (loops_in loops).body x n) (sym q.1) ∙ j

@@ -1,5 +1,6 @@
 -- The place of the loop of a head.
-use Rattle.std.proofs.Common.{◌≡◌, ◌==◌, ◌||◌, ◌⊎◌, ℕ, zero, suc, ◌+◌, ◌<◌, ◌≤◌, inl, inr, Bool, true, false, Option, Some, None, List, [], ◌∷◌, length, set, get_or, cond, ltb, sym, ap, ◌∙◌, arith}
+use Rattle.std.proofs.Common.{◌≡◌, ◌==◌, ◌||◌, ◌⊎◌, ℕ, zero, suc, ◌+◌, ◌<◌, ◌≤◌, inl, inr, Bool, true, false, Option, Some, None, List, [], ◌∷◌}
+use Rattle.std.proofs.Common.{length, set, get_or, cond, ltb, sym, ap, ◌∙◌, arith}
 use Rattle.std.specs.List.{slice_get}
 use Rattle.std.proofs.lemmas.Bool.{eq-eqb, cases_lt, lt-ltb, le-ltb, ltb-true}
 use Rattle.std.proofs.lemmas.Bool.Decides.{eqb_tells}
@@ -38,7 +39,8 @@ place_first : (loops : List Loop) (k : ℕ) (one : Loop) → slice_get loops k �
 place_first [] k one e = cc
 place_first (l ∷ loops) zero one e =
     let s : l ≡ one = some_one e in
-    let z : place_of (l ∷ loops) one.head ≡ 0 = ap (λ (b : Bool). cond b 0 (suc (place_of loops one.head))) (eq-eqb one.head l.head (ap (λ (x : Loop). x.head) (sym s))) in omega (arith, z)
+    let z : place_of (l ∷ loops) one.head ≡ 0 =
+    ap (λ (b : Bool). cond b 0 (suc (place_of loops one.head))) (eq-eqb one.head l.head (ap (λ (x : Loop). x.head) (sym s))) in omega (arith, z)
 place_first (l ∷ loops) (suc k) one e = most (one.head == l.head) (place_first loops k one e)
   where
     most : (b : Bool) → place_of loops one.head ≤ k → cond b 0 (suc (place_of loops one.head)) ≤ suc k
@@ -65,7 +67,8 @@ head_place (one ∷ loops) h = elim (tells (h == one.head)) [
       ap (λ (b : Bool). b || is_head loops h) t ∙ sym (lt-ltb (place_of (one ∷ loops) h) (suc (length loops)) (omega (arith, z)))
   | inr t ↦
       let z : place_of (one ∷ loops) h ≡ suc (place_of loops h) = ap (λ (b : Bool). cond b 0 (suc (place_of loops h))) t in
-      ap (λ (b : Bool). b || is_head loops h) t ∙ (head_place loops h ∙ (same (place_of loops h) (length loops) ∙ ap (λ (k : ℕ). ltb k (suc (length loops))) (sym z)))
+      ap (λ (b : Bool). b || is_head loops h) t
+      ∙ (head_place loops h ∙ (same (place_of loops h) (length loops) ∙ ap (λ (k : ℕ). ltb k (suc (length loops))) (sym z)))
 ]
   where
     same : (a b : ℕ) → ltb a b ≡ ltb (suc a) (suc b)
@@ -104,7 +107,8 @@ back_some loops h p e =
     head_place loops h ∙ lt-ltb (place_of loops h) (length loops) (omega (arith, b.0, b.1))
 
 -- one loop more has its place
-pub places_on : (loops : List Loop) (count i : ℕ) (one : Loop) (places : List (Option ℕ)) → AreLoopsBelow count loops → length places ≡ count → slice_get loops i ≡ Some one
+pub places_on : (loops : List Loop) (count i : ℕ) (one : Loop) (places : List (Option ℕ)) → AreLoopsBelow count loops → length places ≡ count
+    → slice_get loops i ≡ Some one
     → ((h : ℕ) → get_or places h None ≡ place_below loops i h) → (h : ℕ) → get_or (set places one.head (Some i)) h None ≡ place_below loops (i + 1) h
 places_on loops count i one places are size e was h =
     let p : place_of loops one.head ≡ i = place_is loops are.rising i one e in
@@ -113,7 +117,8 @@ places_on loops count i one places are size e was h =
       | inl q ↦
           let r : place_of loops h ≡ i = ap (place_of loops) q.1 ∙ p in
           ap (λ (x : ℕ). get_or (set places one.head (Some i)) x None) q.1
-          ∙ (get_or-set_same places one.head (Some i) None (omega (arith, w, size)) ∙ sym (below_is loops (i + 1) h (omega (arith, r)) ∙ ap (λ (x : ℕ). Some x) r))
+          ∙ (get_or-set_same places one.head (Some i) None (omega (arith, w, size))
+          ∙ sym (below_is loops (i + 1) h (omega (arith, r)) ∙ ap (λ (x : ℕ). Some x) r))
       | inr q ↦
           get_or-set_other places one.head h (Some i) None q.1
           ∙ (was h

@@ -31,8 +31,12 @@ contains_times n (k ∷ ks) (suc i, near, e) = omega (arith, contains_times n ks
 pub times_without : (n m : ℕ) (ks : List ℕ) → 1 ≤ times n ks → times m (without n ks) + same n m ≡ times m ks
 times_without n m [] h = absurd (omega arith)
 times_without n m (k ∷ ks) h = dite (ℕ_discrete k n)
-    (λ e. let w : times m (without n (k ∷ ks)) ≡ times m ks = ap (λ b. times m (cond b ks (k ∷ without n ks))) (eq-eqb k n e) in let s : same k m ≡ same n m = ap (λ (j : ℕ). same j m) e in omega (arith, w, s))
-    (λ e. let w : times m (without n (k ∷ ks)) ≡ same k m + times m (without n ks) = ap (λ b. times m (cond b ks (k ∷ without n ks))) (ne_eqb k n e) in omega (arith, w, same_else k n e, times_without n m ks (omega (arith, same_else k n e))))
+    (λ e. let w : times m (without n (k ∷ ks)) ≡ times m ks =
+    ap (λ b. times m (cond b ks (k ∷ without n ks))) (eq-eqb k n e) in let s : same k m ≡ same n m =
+    ap (λ (j : ℕ). same j m) e in omega (arith, w, s))
+    (λ e. let w : times m (without n (k ∷ ks)) ≡ same k m + times m (without n ks) =
+    ap (λ b. times m (cond b ks (k ∷ without n ks))) (ne_eqb k n e) in omega
+    (arith, w, same_else k n e, times_without n m ks (omega (arith, same_else k n e))))
 
 -- what a seat holds behind a take and a put of the same part is what it held
 pub without_first : (n : ℕ) (ks : List ℕ) → without n (n ∷ ks) ≡ ks
@@ -67,7 +71,8 @@ module _ {A : Type 0} (f : A → ℕ) where
   -- where a sum is something, some term is
   pub some_term : (l : List A) → 1 ≤ sum_by f l → (i : ℕ) × (a : A) × (get_elem? l i ≡ some a) × (1 ≤ f a)
   some_term [] h = absurd (omega arith)
-  some_term (x ∷ xs) h = dite (ℕ_discrete (f x) 0) (λ e. let more = some_term xs (omega (arith, sum_by-cons f x xs, e)) in (suc more.0, more.1, more.2, more.3)) (λ e. (0, x, refl, omega arith))
+  some_term (x ∷ xs) h = dite (ℕ_discrete (f x) 0)
+      (λ e. let more = some_term xs (omega (arith, sum_by-cons f x xs, e)) in (suc more.0, more.1, more.2, more.3)) (λ e. (0, x, refl, omega arith))
 
   -- where each term is nothing, so is the sum
   pub no_terms : (l : List A) → ((i : ℕ) (a : A) → get_elem? l i ≡ some a → f a ≡ 0) → sum_by f l ≡ 0

@@ -23,17 +23,20 @@ module _ {T : Type 0} where
   is_out t n kept near other = ⊎_elim (λ (home : IsHome t n). absurd (other home.word)) (λ out. out) (kept.parts n near)
 
   -- a seat that has all the weight is the only one that holds anything
-  pub only_holder : (t : Table T) (n id : ℕ) (seat : Hold) → IsKept t → get_elem? t.views id ≡ some seat → 128 ≤ seat.weight → holders n t.views ≡ times n seat.held
+  pub only_holder : (t : Table T) (n id : ℕ) (seat : Hold) → IsKept t → get_elem? t.views id ≡ some seat → 128 ≤ seat.weight
+      → holders n t.views ≡ times n seat.held
   only_holder t n id seat kept at all = omega (
     arith,
     sum_set (λ (s : Hold). times n s.held) t.views id seat (hold 0 []) at,
     no_terms (λ (s : Hold). times n s.held) _ (λ i other is. ⊎_elim (λ (x : (i ≡ id) × (hold 0 [] ≡ other)). sym (ap (λ (s : Hold). times n s.held) x.1))
-        (λ (x : (i ≢ id) × (get_elem? t.views i ≡ some other)). ap (times n) (kept.light i other x.1 (omega (arith, terms_le (λ (s : Hold). s.weight) t.views id i seat other x.0 at x.1, all, kept.weights))))
+        (λ (x : (i ≢ id) × (get_elem? t.views i ≡ some other)). ap (times n)
+        (kept.light i other x.1 (omega (arith, terms_le (λ (s : Hold). s.weight) t.views id i seat other x.0 at x.1, all, kept.weights))))
         (at_set t.views id i (hold 0 []) other is)),
   )
 
   -- a seat with all the weight finds each part that it doesn't hold
-  pub finds_all : (t : Table T) (n id : ℕ) (seat : Hold) → IsKept t → get_elem? t.views id ≡ some seat → seat.weight ≡ 128 → n < length t.homes → Lacks seat.held n → get_or t.words n 0 ≡ 1
+  pub finds_all : (t : Table T) (n id : ℕ) (seat : Hold) → IsKept t → get_elem? t.views id ≡ some seat → seat.weight ≡ 128 → n < length t.homes
+      → Lacks seat.held n → get_or t.words n 0 ≡ 1
   finds_all t n id seat kept at all near lacks = ⊎_elim (λ (home : IsHome t n). home.word)
       (λ (out : IsOut t n). absurd (omega (arith, out.held_once, only_holder t n id seat kept at (omega arith), lacks))) (kept.parts n near)
 
@@ -69,7 +72,8 @@ module _ {T : Type 0} where
         terms_le (λ (s : Hold). times n s.held) t.views other id b.seat a.seat apart b.here a.here,
         holds_once t n id a,
         holds_once t n other b,
-        ⊎_elim {C = holders n t.views ≤ 1} (λ (home : IsHome t n). omega (arith, home.unheld)) (λ (out : IsOut t n). omega (arith, out.held_once)) (kept.parts n near),
+        ⊎_elim {C = holders n t.views ≤ 1} (λ (home : IsHome t n). omega (arith, home.unheld)) (λ (out : IsOut t n). omega (arith, out.held_once))
+            (kept.parts n near),
       )))
 
   -- a seat that holds a part has weight

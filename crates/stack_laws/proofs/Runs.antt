@@ -50,7 +50,8 @@ module _
     here i = config_at image first rest i
 
     -- what a step from a place is asked
-    asked : (i : ℕ) → i < length rest → IsBeforeGaps image list x first rest (suc i) → IsAsked image costs list y x ask.facts invalid first (here i) (here (suc i)).machine
+    asked : (i : ℕ) → i < length rest → IsBeforeGaps image list x first rest (suc i)
+        → IsAsked image costs list y x ask.facts invalid first (here i) (here (suc i)).machine
     asked i within before =
         let steps : StepsTo image costs (here i).machine (here (suc i)).machine = ((at_places image costs first rest ask.runs).steps) i within in
         record {
@@ -93,7 +94,8 @@ module _
     holds_at zero within before = begins
     holds_at (suc i) within before =
         let ask_there = asked i (omega arith) before in
-        let lead = each_step image costs list y x ask.facts invalid first (here i).machine (here (suc i)).machine (here i).due (here i).frames (holds_at i (omega arith) (earlier i before)) ask_there in
+        let lead = each_step image costs list y x ask.facts invalid first (here i).machine (here (suc i)).machine (here i).due (here i).frames
+        (holds_at i (omega arith) (earlier i before)) ask_there in
         subst HoldsAt (sym (next_is i (omega arith))) lead.holds
 
     leads : (i : ℕ) → i < length rest → IsBeforeGaps image list x first rest (suc i)

@@ -51,7 +51,8 @@ greater_states_say a b ra contents f up are address says =
     cells : (c : ℕ) → c < 48 → Has (cell_at b c) (contents c) ra
     cells c low = elim (cases_lt c (length a.cells)) [
       | inl inside ↦
-          (ordered (cell_at a c) (cell_at b c) (cells_at a.cells b.cells c parts.0 inside)).up.words (contents c) ra ((are.words) c low) address ((says.cells) c low)
+          (ordered (cell_at a c) (cell_at b c) (cells_at a.cells b.cells c parts.0 inside)).up.words (contents c) ra ((are.words) c low) address
+          ((says.cells) c low)
       | inr past ↦
           (let same = cells_length a.cells b.cells parts.0 in
           subst (λ (v : Value). Has v (contents c) ra) (sym (get_or_past b.cells c top (omega arith))) (top_has (contents c) ra ((are.words) c low)))
@@ -149,7 +150,8 @@ writes_say =
       };
       value = λ s ra contents f c v size has says. record { cells = valued s.cells ra contents c v size has says.cells; flags = says.flags };
       flags = λ s ra contents f next known means says. record { cells = says.cells; flags = means };
-      forgotten = λ s ra mask old new f next size are none same says. record { cells = forgets mask s.cells ra old new size are none same says.cells; flags = tt };
+      forgotten = λ s ra mask old new f next size are none same says.
+          record { cells = forgets mask s.cells ra old new size are none same says.cells; flags = tt };
     }
 
 -- the value of a cell at an entry
@@ -162,7 +164,8 @@ pub entries_say : EntriesSay
 entries_say ra contents f are link address = record { cells = cells; flags = tt } where
   cells : (c : ℕ) → c < 48 → Has (cell_at entry_state c) (contents c) ra
   cells c low = subst (λ (v : Value). Has v (contents c) ra) (sym (entry_at c low)) (elim (eqb_tells c 0) [
-    | inl none ↦ subst (λ (k : ℕ). Has (entry_cell k) (contents k) ra) (sym none.1) (subst (λ (x : ℕ). Has (Words (0 ∷ [])) x ra) (sym are.zero_cell) (0, omega arith, refl))
+    | inl none ↦ subst (λ (k : ℕ). Has (entry_cell k) (contents k) ra) (sym none.1)
+        (subst (λ (x : ℕ). Has (Words (0 ∷ [])) x ra) (sym are.zero_cell) (0, omega arith, refl))
     | inr some ↦ elim (eqb_tells c 15) [
       | inl is ↦ subst (λ (k : ℕ). Has (entry_cell k) (contents k) ra) (sym is.1) link
       | inr other ↦ (let t = some.0 in let u = other.0 in rw (t, u) (top_has (contents c) ra ((are.words) c low)))
@@ -175,7 +178,8 @@ entries_cover F is link =
     let w = is.window in
     let at : F.start.cwp ≡ window_at F.start.cwp 0 = omega arith in
     let own : register_of F.start 15 ≡ content_of F.start F.start.cwp 15 =
-    (registers_hold_contents.read) F.start.cwp 0 F.start 15 (record { window = is.window; shallow = omega arith; is = at; size = is.registers }) (omega arith) in
+    (registers_hold_contents.read) F.start.cwp 0 F.start 15 (record { window = is.window; shallow = omega arith; is = at; size = is.registers })
+    (omega arith) in
     record {
       window = at;
       says = entries_say F.caller (content_of F.start F.start.cwp) (flags_in F.start) (machines_have_contents F.start F.start.cwp is) (sym own ∙ link)

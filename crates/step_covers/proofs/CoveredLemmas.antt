@@ -1,5 +1,6 @@
 -- What states that cover machines cover behind a step.
-use Rattle.std.proofs.Common.{◌≡◌, ℕ, ℤ, pos, negsuc, ◌%◌, ◌^◌, ◌<◌, ◌≤◌, inl, inr, true, false, List, [], ◌∷◌, length, Option, Some, None, Contains, refl, sym, ap, subst, ◌∙◌, arith}
+use Rattle.std.proofs.Common.{◌≡◌, ℕ, ℤ, pos, negsuc, ◌%◌, ◌^◌, ◌<◌, ◌≤◌, inl, inr, true, false, List, [], ◌∷◌, length, Option, Some, None, Contains}
+use Rattle.std.proofs.Common.{refl, sym, ap, subst, ◌∙◌, arith}
 use Rattle.std.specs.Prelude.{◌≤ℤ◌, map, IfSome}
 use Rattle.std.specs.Int.{w32, cast_signed}
 use Rattle.std.proofs.lemmas.Bool.Decides.{nat_tests, eqb_tells}
@@ -26,7 +27,8 @@ use Rattle.state_covers.proofs.CoverLemmas.{entries_cover, machines_have_content
 use Rattle.state_covers.specs.Covers.{AreContents, Says}
 use Rattle.step_covers.proofs.SourceLemmas.{have_words}
 use Rattle.step_covers.proofs.StateLemmas.{steps_say, tests_say, narrows_say}
-use Rattle.step_covers.specs.Covered.{IsCovered, IsCoveredSome, SteppedStatesCover, TestedStatesCover, NarrowedStatesCover, MetAssertionsAreKept, EnteredStatesCover, ReturnedStatesCover, AimsAreResolved}
+use Rattle.step_covers.specs.Covered.{IsCovered, IsCoveredSome, SteppedStatesCover, TestedStatesCover, NarrowedStatesCover, MetAssertionsAreKept}
+use Rattle.step_covers.specs.Covered.{EnteredStatesCover, ReturnedStatesCover, AimsAreResolved}
 use Rattle.step_covers.specs.Does.{IsSumIn}
 use Rattle.step_covers.specs.Says.{IsRight, SaysSome, IsInRange}
 use Rattle.transfer_rules.specs.Give.{argument_registers, handed, with_each}
@@ -187,8 +189,28 @@ entered_cover t s depth F G window shallow is link =
         ((machines_have_contents G.start F.start.cwp is.machine).words (cell_of depth r) ((cells_tell_registers_apart.within) depth r low)) is.word
         ((is.covers.says.cells) (cell_of depth r) ((cells_tell_registers_apart.within) depth r low)))
 
-    near : (8 < 32) × ((9 < 32) × ((10 < 32) × ((11 < 32) × ((12 < 32) × ((13 < 32) × ((1 < 32) × ((2 < 32) × ((3 < 32) × ((4 < 32) × ((5 < 32) × ((6 < 32) × ((7 < 32) × Unit {0}))))))))))))
-    near = (omega arith, (omega arith, (omega arith, (omega arith, (omega arith, (omega arith, (omega arith, (omega arith, (omega arith, (omega arith, (omega arith, (omega arith, (omega arith, tt)))))))))))))
+    near : (8 < 32) × ((9 < 32) × ((10 < 32)
+        × ((11 < 32) × ((12 < 32) × ((13 < 32)
+        × ((1 < 32) × ((2 < 32) × ((3 < 32) × ((4 < 32) × ((5 < 32) × ((6 < 32) × ((7 < 32) × Unit {0}))))))))))))
+    near = (
+      omega arith,
+      (
+        omega arith,
+        (
+          omega arith,
+          (
+            omega arith,
+            (
+              omega arith,
+              (
+                omega arith,
+                (omega arith, (omega arith, (omega arith, (omega arith, (omega arith, (omega arith, (omega arith, tt))))))),
+              ),
+            ),
+          ),
+        ),
+      ),
+    )
 
 -- the state of a call, in which the cells that the callee may write are any word, covers a machine that has come back
 pub returned_cover : ReturnedStatesCover
@@ -201,13 +223,15 @@ returned_cover t s mask depth F old m is machine same =
     }
 
 -- a sum that a transfer goes to
-sum_resolved : (t image : List ℕ) (list : List BoundAssertion) (pc : ℕ) (left right : Right) (kind : Candidates) (s : State) (depth : ℕ) (F : Frame) (m : Machine)
+sum_resolved : (t image : List ℕ) (list : List BoundAssertion) (pc : ℕ) (left right : Right) (kind : Candidates) (s : State) (depth : ℕ) (F : Frame)
+    (m : Machine)
     (target : ℕ) → IsCovered t s depth F m → IsSumIn (content_of m F.start.cwp) left right target
     → IfSome (listed list pc) (λ to. Contains to target × (is_code image target ≡ true))
     → (resolved t image list pc (Computed left right kind) s).whole ≡ true → Contains (resolved t image list pc (Computed left right kind) s).list target
 sum_resolved t image list pc left right kind s depth F m target is aims there whole =
     let words =
-    have_words t s F.caller (content_of m F.start.cwp) (flags_in m) (right_of t s depth F m is) left right aims.first aims.second aims.is_first aims.is_second in
+    have_words t s F.caller (content_of m F.start.cwp) (flags_in m)
+    (right_of t s depth F m is) left right aims.first aims.second aims.is_first aims.is_second in
     subst (λ (x : ℕ). Contains (resolved t image list pc (Computed left right kind) s).list x) (sym aims.is)
     (targets_cover t image list pc s left right kind aims.first aims.second F.caller words (ap (λ (x : ℕ). x % 4) (sym aims.is) ∙ aims.aligned)
     (subst (λ (x : ℕ). IfSome (listed list pc) (λ to. Contains to x × (is_code image x ≡ true))) aims.is there) whole)

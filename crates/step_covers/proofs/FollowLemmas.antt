@@ -65,7 +65,8 @@ module _ (cwp depth : ℕ) (m base : Machine) (same : base.regs ≡ m.regs) (at 
       ∙ with_content-same (content_of m cwp) (cell_of depth rd) value (λ none. some ((cells_tell_registers_apart.zero) depth rd none))
 
   -- and that of another
-  pub new_elsewhere : (r : ℕ) → r < 32 → (r ≢ rd) ⊎ (rd ≡ 0) → content_of (with_register base rd value) cwp (cell_of depth r) ≡ content_of m cwp (cell_of depth r)
+  pub new_elsewhere : (r : ℕ) → r < 32 → (r ≢ rd) ⊎ (rd ≡ 0)
+      → content_of (with_register base rd value) cwp (cell_of depth r) ≡ content_of m cwp (cell_of depth r)
   new_elsewhere r near (inl other) =
       new_contents (cell_of depth r) ((cells_tell_registers_apart.within) depth r near)
       ∙ with_content-other (content_of m cwp) (cell_of depth rd) value (cell_of depth r)
@@ -88,7 +89,8 @@ module _ (cwp depth : ℕ) (m base : Machine) (same : base.regs ≡ m.regs) (at 
               gives_first = gives;
               gives_second = tt;
               contents = new_contents;
-              flags = subst (λ (g : Flags). FlagsFollow known (content_of (with_register base rd value) cwp) (flags_in m) g) (sym (flags_kept base rd value)) flags;
+              flags = subst (λ (g : Flags). FlagsFollow known (content_of (with_register base rd value) cwp) (flags_in m) g)
+                  (sym (flags_kept base rd value)) flags;
             };
       }
 

@@ -22,10 +22,13 @@ use Rattle.abs_state.specs.declared.key.Next.{Next}
 use Rattle.abs_state.specs.declared.key.Next.TheVariants.{At, Into, Back}
 use Rattle.abs_state.specs.declared.key.Place.{Place}
 use Rattle.flow_system.specs.State.{ContainsPiece, IsClosed}
-use Rattle.transfer_rules.specs.Closed.{ClosedCalls, ClosedHasGaps, ClosedHasThree, ClosedLeadsOn, ClosedSays, ClosedStarts, HasCall, HasState, IsAllowed, IsTaken, LeadsTo, Says}
+use Rattle.transfer_rules.specs.Closed.{ClosedCalls, ClosedHasGaps, ClosedHasThree, ClosedLeadsOn, ClosedSays, ClosedStarts, HasCall, HasState}
+use Rattle.transfer_rules.specs.Closed.{IsAllowed, IsTaken, LeadsTo, Says}
 use Rattle.transfer_rules.specs.Fact.{Piece, effects_in, is_at_most, state_in}
 use Rattle.transfer_rules.specs.Family.{Family, Program}
-use Rattle.transfer_rules.specs.Give.{Facts, act_beside, act_entered, act_gives, act_here, arguments, behind, beside, beside_to, called, called_effects, called_to, callee_of, delayed, effects, entered, entered_to, entered_with, entry_of, exits, gap, given_if, goes, here, here_to, is_behind, is_known, jumped_to, mask_of, node_gives, onward, pieces_of, place}
+use Rattle.transfer_rules.specs.Give.{Facts, act_beside, act_entered, act_gives, act_here, arguments, behind, beside, beside_to, called}
+use Rattle.transfer_rules.specs.Give.{called_effects, called_to, callee_of, delayed, effects, entered, entered_to, entered_with, entry_of, exits, gap}
+use Rattle.transfer_rules.specs.Give.{given_if, goes, here, here_to, is_behind, is_known, jumped_to, mask_of, node_gives, onward, pieces_of, place}
 use Rattle.transfer_rules.specs.Lawful.{rules_of}
 use Rattle.transfer_rules.specs.declared.act.Act.{Act}
 use Rattle.transfer_rules.specs.declared.act.Act.TheVariants.{Acts, Open}
@@ -114,7 +117,8 @@ module _ (t : List ℕ) (f : Family) (m : Program) (x : Facts) (closed : IsClose
         act piece
         (Contains-append_left (act_beside f m p (Acts step way) (callee_of p.next x) before)
         (act_here f p (Acts step way) (callee_of p.next x) before ++ act_entered f m p (Acts step way) before) piece
-        (Contains-append_right (effects p.sub false false (mask_of step) ∷ []) (pieces_of (f.step step before) (beside f m p step way (callee_of p.next x) before)) piece
+        (Contains-append_right (effects p.sub false false (mask_of step) ∷ [])
+        (pieces_of (f.step step before) (beside f m p step way (callee_of p.next x) before)) piece
         (subst (λ (o : Option State). Contains (pieces_of o (beside f m p step way (callee_of p.next x) before)) piece) (sym is.stepped) has)))
 
     has_here : (piece : Piece) → Contains (here f p step way (callee_of p.next x) before after) piece → Has piece
@@ -181,7 +185,8 @@ module _ (t : List ℕ) (f : Family) (m : Program) (x : Facts) (closed : IsClose
         let s : State = without after (after_call there.written step.depth) in
         leads p (onward p (behind p.pc 4) step.depth) s
         (λ piece has. at_called target there same found piece
-        (Contains-append_left (given_if there.returns (goes p (onward p (behind p.pc 4) step.depth) s)) (given_if there.skips (goes p (onward p (behind p.pc 8) step.depth) s)) piece
+        (Contains-append_left (given_if there.returns (goes p (onward p (behind p.pc 4) step.depth) s))
+        (given_if there.skips (goes p (onward p (behind p.pc 8) step.depth) s)) piece
         (subst (λ (b : Bool). Contains (given_if b (goes p (onward p (behind p.pc 4) step.depth) s)) piece) (sym returns) has)))
 
     skips_word : (target : ℕ) (there : Effects) → p.next ≡ Into target → x (key.Summary target) ≡ Some (fact.Sum there) → there.skips ≡ true
@@ -190,7 +195,8 @@ module _ (t : List ℕ) (f : Family) (m : Program) (x : Facts) (closed : IsClose
         let s : State = without after (after_call there.written step.depth) in
         leads p (onward p (behind p.pc 8) step.depth) s
         (λ piece has. at_called target there same found piece
-        (Contains-append_right (given_if there.returns (goes p (onward p (behind p.pc 4) step.depth) s)) (given_if there.skips (goes p (onward p (behind p.pc 8) step.depth) s)) piece
+        (Contains-append_right (given_if there.returns (goes p (onward p (behind p.pc 4) step.depth) s))
+        (given_if there.skips (goes p (onward p (behind p.pc 8) step.depth) s)) piece
         (subst (λ (b : Bool). Contains (given_if b (goes p (onward p (behind p.pc 8) step.depth) s)) piece) (sym skips) has)))
 
     calls_say : (target : ℕ) (there : Effects) → p.next ≡ Into target → x (key.Summary target) ≡ Some (fact.Sum there)
@@ -199,8 +205,10 @@ module _ (t : List ℕ) (f : Family) (m : Program) (x : Facts) (closed : IsClose
         let e : Effects = record { returns = false; skips = false; written = after_call there.written step.depth } in
         says p.sub e
         (at_beside (Into target) same (key.Summary p.sub, fact.Sum e)
-        (Contains-append_right ((key.Call p target, fact.Args (arguments step.depth after)) ∷ []) (pieces_of (callee_of p.next x) (called_effects p step.depth)) (key.Summary p.sub, fact.Sum e)
-        (subst (λ (o : Option Effects). Contains (pieces_of o (called_effects p step.depth)) (key.Summary p.sub, fact.Sum e)) (sym (callee_is target there same found)) (0, omega arith, refl))))
+        (Contains-append_right ((key.Call p target, fact.Args (arguments step.depth after)) ∷ [])
+        (pieces_of (callee_of p.next x) (called_effects p step.depth)) (key.Summary p.sub, fact.Sum e)
+        (subst (λ (o : Option Effects). Contains (pieces_of o (called_effects p step.depth)) (key.Summary p.sub, fact.Sum e))
+        (sym (callee_is target there same found)) (0, omega arith, refl))))
 
     goes_back : p.next ≡ Back → step.depth ≡ 0 → Says x p.sub (record { returns = not (m.skips p); skips = m.skips p; written = 0 })
     goes_back same flat =
@@ -294,10 +302,12 @@ closed_has_gaps = record {
       marked t f m x closed (key.Gap p.sub p.pc kind) (has_allowed t f m x closed p before (Open kind) is acts (gap p kind) (0, omega arith, refl));
   calls = λ t f m x p step aim before after closed is unknown.
       marked t f m x closed (key.Gap p.sub p.pc why.Call)
-      (has_beside t f m x closed p step (CallsTo aim) before after is (gap p why.Call) (gap_if t f m x closed p why.Call (is_known p (f.resolve p.pc aim before)) unknown));
+      (has_beside t f m x closed p step (CallsTo aim) before after is (gap p why.Call)
+      (gap_if t f m x closed p why.Call (is_known p (f.resolve p.pc aim before)) unknown));
   jumps = λ t f m x p step aim before after closed is unknown.
       marked t f m x closed (key.Gap p.sub p.pc why.Jump)
-      (has_beside t f m x closed p step (JumpsTo aim) before after is (gap p why.Jump) (gap_if t f m x closed p why.Jump (f.resolve p.pc aim before).whole unknown));
+      (has_beside t f m x closed p step (JumpsTo aim) before after is (gap p why.Jump)
+      (gap_if t f m x closed p why.Jump (f.resolve p.pc aim before).whole unknown));
   returns = λ t f m x p c step before after closed is other.
       marked t f m x closed (key.Gap p.sub p.pc why.Jump)
       (has_beside t f m x closed p step (ReturnsBy c) before after is (gap p why.Jump) (gap_if t f m x closed p why.Jump (is_ret (cell_at before c)) other));
@@ -328,7 +338,8 @@ closed_says = record {
 -- a closed state has the entries of the roots, and what the stubs may do
 pub closed_starts : ClosedStarts
 closed_starts = record { roots = roots; stubs = stubs } where
-  roots : (t : List ℕ) (f : Family) (m : Program) (x : Facts) (root : ℕ) → IsClosed (rules_of t f m) x → Contains m.roots root → HasState x (entry_of root) entry_state
+  roots : (t : List ℕ) (f : Family) (m : Program) (x : Facts) (root : ℕ) → IsClosed (rules_of t f m) x → Contains m.roots root
+      → HasState x (entry_of root) entry_state
   roots t f m x root closed has =
       has_state t f m x closed (entry_of root) entry_state
       (closed.starts (key.Node (entry_of root)) (fact.State entry_state)

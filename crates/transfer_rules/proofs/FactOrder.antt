@@ -30,7 +30,8 @@ pub record AreArguments (t : List ℕ) (list : List Value) : Type 0 where
 
 -- a fact of arguments over the thresholds is thirteen values over them
 pub arguments_in : (t : List ℕ) (list : List Value) → is_fact_over t (Args list) ≡ true → AreArguments t list
-arguments_in t list is = let parts = and_parts (length list == 13) (list_all (is_over t) list) is in record { size = eqb-true (length list) 13 parts.0; over = parts.1 }
+arguments_in t list is = let parts = and_parts (length list == 13)
+    (list_all (is_over t) list) is in record { size = eqb-true (length list) 13 parts.0; over = parts.1 }
 
 -- thirteen values over the thresholds are a fact over them
 pub from_arguments : (t : List ℕ) (list : List Value) → AreArguments t list → is_fact_over t (Args list) ≡ true
@@ -137,7 +138,8 @@ module _ (t : List ℕ) (is : IsThresholds t) where
       let left = fitting t k a one in
       let right = fitting t k b two in
       let same = fit_alike t k a b one two in
-      from_fitting t k (joined t a b) (record { kind = kind_up (kind_at k) a b left.kind same; depths = left.depths; over = over_up a b same left.over right.over })
+      from_fitting t k (joined t a b) (record
+      { kind = kind_up (kind_at k) a b left.kind same; depths = left.depths; over = over_up a b same left.over right.over })
 
   -- the first fact is at most the join
   pub join_first : (k : Key) (a b : Fact) → fits t k a ≡ true → fits t k b ≡ true → is_at_most a (joined t a b) ≡ true
@@ -151,7 +153,8 @@ module _ (t : List ℕ) (is : IsThresholds t) where
   pub join_least : (k : Key) (a b c : Fact) → fits t k a ≡ true → fits t k b ≡ true → fits t k c ≡ true → is_at_most a c ≡ true → is_at_most b c ≡ true
       → is_at_most (joined t a b) c ≡ true
   join_least k a b c one two three up also =
-      least_up a b c (fit_alike t k a b one two) (fit_alike t k b c two three) (fitting t k a one).over (fitting t k b two).over (fitting t k c three).over up also
+      least_up a b c (fit_alike t k a b one two) (fit_alike t k b c two three) (fitting t k a one).over (fitting t k b two).over
+      (fitting t k c three).over up also
 
 -- the ranks of summaries
 bits_up : (a b : Bool) → implies a b ≡ true → (bit_of a < bit_of b) ⊎ (a ≡ b)

@@ -1,5 +1,6 @@
 -- Lists of pieces: one is covered by another, which has for each of its pieces one of its key that is at least as great.
-use Rattle.std.proofs.Common.{◌≡◌, ℕ, zero, suc, ◌<◌, Bool, true, false, List, [], ◌∷◌, ◌++◌, length, Option, Some, None, Contains, refl, sym, ap, subst, ◌∙◌, arith, inl, inr}
+use Rattle.std.proofs.Common.{◌≡◌, ℕ, zero, suc, ◌<◌, Bool, true, false, List, [], ◌∷◌, ◌++◌, length, Option, Some, None, Contains, refl, sym, ap}
+use Rattle.std.proofs.Common.{subst, ◌∙◌, arith, inl, inr}
 use Rattle.std.specs.Prelude.{slice_index_or}
 use Rattle.std.specs.List.{All, flat_map, list_any}
 use Rattle.std.proofs.lemmas.Bool.{false≢true, or_cases, or_left, or_right}
@@ -63,7 +64,8 @@ given_covered false b ps qs more are = none_covered (given_if b qs)
 
 -- what each of a list gives, where another list has them all
 module _ {A : Type 0} (g : A → List Piece) where
-  covered_at : (ys : List A) (x : A) (k : ℕ) → k < length ys → slice_index_or ys k x ≡ x → (ps : List Piece) → AreCovered ps (g x) → AreCovered ps (flat_map g ys)
+  covered_at : (ys : List A) (x : A) (k : ℕ) → k < length ys → slice_index_or ys k x ≡ x → (ps : List Piece) → AreCovered ps (g x)
+      → AreCovered ps (flat_map g ys)
   covered_at [] x k below is ps are = absurd (omega arith)
   covered_at (y ∷ ys) x zero below is ps are = covered_left ps (g y) (flat_map g ys) (subst (λ (z : A). AreCovered ps (g z)) (sym is) are)
   covered_at (y ∷ ys) x (suc k) below is ps are = covered_right ps (g y) (flat_map g ys) (covered_at ys x k (omega arith) is ps are)

@@ -19,7 +19,8 @@ use Rattle.abs_state.specs.declared.key.Key.{Key}
 use Rattle.flow_system.specs.Laws.{HasLimits, JoinsLeast, KeepsFit, LooksAtReads, OrdersFacts, OrdersKeys}
 use Rattle.flow_system.specs.State.{AllFit, ContainsPiece, IsBelow, IsCovered}
 use Rattle.transfer_rules.proofs.FactKinds.{fitting, from_fitting}
-use Rattle.transfer_rules.proofs.FactOrder.{arguments_in, facts_both, facts_limit, facts_onward, facts_rise, from_arguments, join_first, join_fits, join_least, join_second, same_fact}
+use Rattle.transfer_rules.proofs.FactOrder.{arguments_in, facts_both, facts_limit, facts_onward, facts_rise, from_arguments, join_first, join_fits}
+use Rattle.transfer_rules.proofs.FactOrder.{join_least, join_second, same_fact}
 use Rattle.transfer_rules.proofs.Fitting.{IsFit, gives_fit, starts_fit}
 use Rattle.transfer_rules.proofs.Lengths.{counted_gives, gives_looks, gives_short, reads_itself, reads_short}
 use Rattle.transfer_rules.proofs.PieceLists.{AreCovered, IsAbove}
@@ -41,7 +42,8 @@ covered_in t f m ps qs are k v has =
     record { fact = is.fact; listed = is.listed; above = is.above }
 
 -- what is below in a system is below
-below_in : (t more : List ℕ) (f g : Family) (m : Program) (coarse : IsLawfulFamily t m.widest f) (fine : IsLawfulFamily more m.widest g) (law : IsFinerFamily t more f g)
+below_in : (t more : List ℕ) (f g : Family) (m : Program) (coarse : IsLawfulFamily t m.widest f) (fine : IsLawfulFamily more m.widest g)
+    (law : IsFinerFamily t more f g)
     (up : is_state_at_most entry_state entry_state ≡ true) (x y : Key → Option Fact)
     → ((k : Key) (v : Fact) → x k ≡ Some v → ContainsPiece (rules_of t f m) y k v) → rising.IsBelow t more m up f g coarse fine law x y
 below_in t more f g m coarse fine law up x y below = record { fact = λ k v is. let c = below k v is in (c.fact, c.found, c.above) }

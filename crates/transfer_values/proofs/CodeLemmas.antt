@@ -1,5 +1,6 @@
 -- What the code comes to, step by step.
-use Rattle.std.proofs.Common.{◌≡◌, ℕ, suc, ◌+◌, ◌-◌, ◌^◌, ◌<◌, ◌≤◌, Bool, true, false, List, [], ◌∷◌, ◌++◌, length, get_or, drop, Option, Some, None, refl, sym, ap, subst, ◌∙◌, arith, append_assoc, append-nil}
+use Rattle.std.proofs.Common.{◌≡◌, ℕ, suc, ◌+◌, ◌-◌, ◌^◌, ◌<◌, ◌≤◌, Bool, true, false, List, [], ◌∷◌, ◌++◌, length, get_or, drop, Option, Some, None}
+use Rattle.std.proofs.Common.{refl, sym, ap, subst, ◌∙◌, arith, append_assoc, append-nil}
 use Rattle.std.specs.Prelude.{ℤ, filter, if◌then◌else◌}
 use Rattle.std.specs.List.{range_with_len}
 use Rattle.std.proofs.lemmas.List.Elements.{All-contains}
@@ -49,7 +50,8 @@ map_same (Some ws) = refl
 pub words_begin : (image addresses : List ℕ) → option_map (λ ws. [] ++ ws) (words_at image (drop 0 addresses)) ≡ words_at image addresses
 words_begin image addresses = map_same (words_at image addresses)
 
-map_more : (read : List ℕ) (w : ℕ) (o : Option (List ℕ)) → option_map (λ ws. (read ++ w ∷ []) ++ ws) o ≡ option_map (λ ws. read ++ ws) (option_map (λ ws. w ∷ ws) o)
+map_more : (read : List ℕ) (w : ℕ) (o : Option (List ℕ))
+    → option_map (λ ws. (read ++ w ∷ []) ++ ws) o ≡ option_map (λ ws. read ++ ws) (option_map (λ ws. w ∷ ws) o)
 map_more read w None = refl
 map_more read w (Some ws) = ap Some (append_assoc read (w ∷ []) ws)
 
@@ -210,7 +212,8 @@ pub narrow_more : (t : List ℕ) (list : List BoundAssertion) (p : Place) (r c :
     → narrowed_from t list p r s ≡ narrowed t list p all → narrowed_from t list p (r + 1) u ≡ narrowed t list p all
 narrow_more t list p r c o b s u all low asserted cell is some before =
     ap (option_and_then (narrowed_from t list p (r + 1)))
-    (if_true b u (narrowed_to t o c s) is some ∙ ap (λ (x : Option (ℤ × ℤ)). narrowed_to t x c s) asserted ∙ ap (λ (k : ℕ). narrowed_to t (range list p.pc r) k s) cell)
+    (if_true b u (narrowed_to t o c s) is some ∙ ap (λ (x : Option (ℤ × ℤ)). narrowed_to t x c s) asserted
+    ∙ ap (λ (k : ℕ). narrowed_to t (range list p.pc r) k s) cell)
     ∙ sym (from_less t list p r s low) ∙ before
 
 -- the state stops where a register meets no word of its range
@@ -219,7 +222,8 @@ pub narrow_stops : (t : List ℕ) (list : List BoundAssertion) (p : Place) (r c 
     → narrowed_from t list p r s ≡ narrowed t list p all → None ≡ narrowed t list p all
 narrow_stops t list p r c o b s u all low asserted cell is none before =
     ap (option_and_then (narrowed_from t list p (r + 1)))
-    (if_false b u (narrowed_to t o c s) is none ∙ ap (λ (x : Option (ℤ × ℤ)). narrowed_to t x c s) asserted ∙ ap (λ (k : ℕ). narrowed_to t (range list p.pc r) k s) cell)
+    (if_false b u (narrowed_to t o c s) is none ∙ ap (λ (x : Option (ℤ × ℤ)). narrowed_to t x c s) asserted
+    ∙ ap (λ (k : ℕ). narrowed_to t (range list p.pc r) k s) cell)
     ∙ sym (from_less t list p r s low) ∙ before
 
 -- behind the last register nothing more is narrowed

@@ -84,7 +84,8 @@ sources_cover = record {
 
 -- where a transfer goes
 among_has : (image : List ℕ) (v : Value) (o : Option (List ℕ)) (others : List ℕ) (a ra : ℕ) → a < 2 ^ 32 → ra < 2 ^ 32 → Has v a ra → a % 4 ≡ 0
-    → IfSome o (λ to. Contains to a × (is_code image a ≡ true)) → (targets_among image v o others).whole ≡ true → Contains (targets_among image v o others).list a
+    → IfSome o (λ to. Contains to a × (is_code image a ≡ true)) → (targets_among image v o others).whole ≡ true
+    → Contains (targets_among image v o others).list a
 among_has image v (Some to) others a ra fits address has aligned listed_there whole =
     is_in_list image v to a (record { word = fits; candidate = listed_there.0; code = listed_there.1; may = may_from_has v a ra address has })
 among_has image v None others a ra fits address has aligned none whole =

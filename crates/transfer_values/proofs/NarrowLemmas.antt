@@ -34,7 +34,8 @@ by_over : (t : List ℕ) (list : List BoundAssertion) (p : Place) (registers : L
     → is_left_over t (narrowed_by t list p registers s) ≡ true
 by_over t list p [] s is fits = fits
 by_over t list p (r ∷ rest) s is fits =
-    then_over t (narrowed_to t (range list p.pc r) (cell_of p.depth r) s) (narrowed_by t list p rest) (to_over t (range list p.pc r) (cell_of p.depth r) s is fits)
+    then_over t (narrowed_to t (range list p.pc r) (cell_of p.depth r) s) (narrowed_by t list p rest)
+    (to_over t (range list p.pc r) (cell_of p.depth r) s is fits)
     (λ u made over. by_over t list p rest u is over)
 
 by_falls : (t more : List ℕ) (list : List BoundAssertion) (p : Place) (registers : List ℕ) (a b : State) → IsThresholds t → IsThresholds more → AreMore t more

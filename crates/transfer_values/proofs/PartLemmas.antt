@@ -90,14 +90,16 @@ written_cases cells c k v low =
       | inr other ↦ inr (other_value cells c k v other)
     ]
   where
-    by_test : (b : Bool) → k ≡ c → (cell_in (if b then cells else slice_set cells c v) k ≡ v) ⊎ (cell_in (if b then cells else slice_set cells c v) k ≡ cell_in cells k)
+    by_test : (b : Bool) → k ≡ c → (cell_in (if b then cells else slice_set cells c v) k ≡ v)
+        ⊎ (cell_in (if b then cells else slice_set cells c v) k ≡ cell_in cells k)
     by_test true same = inr refl
     by_test false same =
         let within : c < length cells = omega arith in
         inl (ap (λ (n : ℕ). cell_in (slice_set cells c v) n) same ∙ get_or-set_same cells c v top within)
 
 -- flags may speak of a cell that has less, where it isn't the return address
-name_part : (cells : List Value) (c k : ℕ) (v : Value) → length cells ≡ 48 → is_ret v ≡ false → may_name cells k ≡ true → may_name (with_value cells c v) k ≡ true
+name_part : (cells : List Value) (c k : ℕ) (v : Value) → length cells ≡ 48 → is_ret v ≡ false → may_name cells k ≡ true
+    → may_name (with_value cells c v) k ≡ true
 name_part cells c k v size words may =
     let parts = and_parts (nat_lt k 48) (not (is_ret (cell_in cells k))) may in
     let low : k < 48 = ltb-true k 48 parts.0 in

@@ -1,5 +1,6 @@
 -- What a step writes: it is over the thresholds, and of less, and over more thresholds, at most what it was.
-use Rattle.std.proofs.Common.{◌≡◌, ℕ, suc, ◌^◌, ◌<◌, ◌&&◌, inl, inr, Bool, true, false, eqb, List, [], ◌∷◌, length, get_or, Option, Some, None, Contains, refl, sym, ap, subst, ◌∙◌, arith, ⊎_elim}
+use Rattle.std.proofs.Common.{◌≡◌, ℕ, suc, ◌^◌, ◌<◌, ◌&&◌, inl, inr, Bool, true, false, eqb, List, [], ◌∷◌, length, get_or, Option, Some, None}
+use Rattle.std.proofs.Common.{Contains, refl, sym, ap, subst, ◌∙◌, arith, ⊎_elim}
 use Rattle.std.specs.Prelude.{filter, int_le, if◌then◌else◌}
 use Rattle.std.specs.Option.{option_map, option_and_then}
 use Rattle.std.specs.Set.{is_member}
@@ -90,17 +91,26 @@ later y ys a there = (suc there.0, omega (arith, there.1), there.2)
 first : (y : ℕ) (ys : List ℕ) → Contains (y ∷ ys) y
 first y ys = (0, omega arith, refl)
 
-read_by : (image rest words : List ℕ) (b a : ℕ) (o : Option ℕ) (p : Option (List ℕ)) → word image b ≡ o → ((ws : List ℕ) → p ≡ Some ws → Contains rest a → IsRead image ws a)
+read_by : (image rest words : List ℕ) (b a : ℕ) (o : Option ℕ) (p : Option (List ℕ)) → word image b ≡ o
+    → ((ws : List ℕ) → p ≡ Some ws → Contains rest a → IsRead image ws a)
     → option_and_then (λ w. option_map (λ ws. word_of w ∷ ws) p) o ≡ Some words → Contains (b ∷ rest) a → IsRead image words a
 read_by image rest words b a None p here more is there = cc
 read_by image rest words b a (Some w) None here more is there = cc
 read_by image rest words b a (Some w) (Some ws) here more is there =
     let same : word_of w ∷ ws ≡ words = cc in
     elim (head_or_tail b rest a there) [
-      | inl now ↦ (record { read = w; stands = ap (word image) now ∙ here; there = subst (λ (xs : List ℕ). Contains xs (word_of w)) same (first (word_of w) ws) })
+      | inl now ↦ (record {
+        read = w;
+        stands = ap (word image) now ∙ here;
+        there = subst (λ (xs : List ℕ). Contains xs (word_of w)) same (first (word_of w) ws);
+      })
       | inr after ↦
           (let r : IsRead image ws a = more ws refl after in
-          record { read = r.read; stands = r.stands; there = subst (λ (xs : List ℕ). Contains xs (word_of r.read)) same (later (word_of w) ws (word_of r.read) r.there) })
+          record {
+            read = r.read;
+            stands = r.stands;
+            there = subst (λ (xs : List ℕ). Contains xs (word_of r.read)) same (later (word_of w) ws (word_of r.read) r.there);
+          })
     ]
 
 -- words that are found at addresses are read there
@@ -119,7 +129,13 @@ pub record AreReadIn (image addresses words : List ℕ) : Type 0 where
 
 -- words that are read at each address are those of all
 pub read_in : (image addresses words : List ℕ) → ((a : ℕ) → Contains addresses a → IsRead image words a) → AreReadIn image addresses words
-read_in image [] words each = record { read = []; are = refl; among = λ w there. absurd (omega (arith, there.1)); fit = λ w there. absurd (omega (arith, there.1)); many = refl }
+read_in image [] words each = record {
+  read = [];
+  are = refl;
+  among = λ w there. absurd (omega (arith, there.1));
+  fit = λ w there. absurd (omega (arith, there.1));
+  many = refl;
+}
 read_in image (b ∷ rest) words each =
     let r : AreReadIn image rest words = read_in image rest words (λ a there. each a (later b rest a there)) in
     let h : IsRead image words b = each b (first b rest) in
@@ -151,7 +167,8 @@ loaded_over t image Ret is = top_over t is
 covered_falls : (t more image : List ℕ) (a b : ℕ) (xs ys : List ℕ) (p : Option (List ℕ)) → IsThresholds t → IsThresholds more → AreMore t more
     → ((w : ℕ) → Contains (a ∷ xs) w → Contains (b ∷ ys) w) → words_at image (b ∷ ys) ≡ p
     → is_at_most (covered more (words_at image (a ∷ xs))) (covered t p) ≡ true
-covered_falls t more image a b xs ys None is is_more in_more part are = under_top more (covered more (words_at image (a ∷ xs))) (covered_over more (words_at image (a ∷ xs)) is_more)
+covered_falls t more image a b xs ys None is is_more in_more part are =
+    under_top more (covered more (words_at image (a ∷ xs))) (covered_over more (words_at image (a ∷ xs)) is_more)
 covered_falls t more image a b xs ys (Some words) is is_more in_more part are =
     let r : AreReadIn image (a ∷ xs) words = read_in image (a ∷ xs) words (λ c there. are_read image (b ∷ ys) words are c (part c there)) in
     let some : 0 < length r.read = omega (arith, r.many) in
@@ -200,7 +217,8 @@ source_over t image s (Ranged lo hi) is fits = by_test (int_le lo hi) where
   by_test : (b : Bool) → is_over t (if b then span t (rank_of lo) (rank_of hi) else top) ≡ true
   by_test true = span_over t (rank_of lo) (rank_of hi) is
   by_test false = top_over t is
-source_over t image s (Applied op left right) is fits = apply_over t op (operand s left) (operand s right) is (operand_over t s left is fits) (operand_over t s right is fits)
+source_over t image s (Applied op left right) is fits =
+    apply_over t op (operand s left) (operand s right) is (operand_over t s left is fits) (operand_over t s right is fits)
 source_over t image s (Loaded left right) is fits = loaded_over t image (apply t Add (operand s left) (operand s right)) is
 
 -- of a lesser state, over more thresholds, less is written

@@ -90,7 +90,8 @@ module _ (t more : List ℕ) (condition : ℕ) (truth : Bool) (a b : State) (is 
         (if z then Some d else left_with k d (refine t (mirror_of condition) truth (cell_at b k) (cell_at b left))) ≡ true
     by_test true = less
     by_test false =
-        left_falls c d k (refine more (mirror_of condition) truth (cell_at a k) (cell_at a left)) (refine t (mirror_of condition) truth (cell_at b k) (cell_at b left)) less
+        left_falls c d k (refine more (mirror_of condition) truth (cell_at a k) (cell_at a left))
+        (refine t (mirror_of condition) truth (cell_at b k) (cell_at b left)) less
         (refine_falls t more (mirror_of condition) truth (cell_at b k) (cell_at b left) (cell_at a k) (cell_at a left) is is_more in_more
         (cell_over t b k is greater) (cell_over t b left is greater) (cell_over more a k is_more lesser) (cell_over more a left is_more lesser)
         (words_named b.cells k may) (cell_up t a b k is up) (cell_up t a b left is up))
@@ -99,7 +100,8 @@ module _ (t more : List ℕ) (condition : ℕ) (truth : Bool) (a b : State) (is 
   refined_falls Unknown may = up
   refined_falls (Cmp left r) may =
       let parts = and_parts (may_name b.cells left) (may_name_right b.cells r) may in
-      then_falls (left_with left a (refine more condition truth (cell_at a left) (operand a r))) (left_with left b (refine t condition truth (cell_at b left) (operand b r)))
+      then_falls (left_with left a (refine more condition truth (cell_at a left) (operand a r)))
+      (left_with left b (refine t condition truth (cell_at b left) (operand b r)))
       (with_right more condition truth a left r) (with_right t condition truth b left r)
       (left_falls a b left (refine more condition truth (cell_at a left) (operand a r)) (refine t condition truth (cell_at b left) (operand b r)) up
       (refine_falls t more condition truth (cell_at b left) (operand b r) (cell_at a left) (operand a r) is is_more in_more
@@ -121,7 +123,8 @@ module _ (t more : List ℕ) (condition : ℕ) (truth : Bool) (a b : State) (is 
       → is_less (with_right more condition truth a left r c) (Some b) ≡ true
   right_under left (Word n) c may less = less
   right_under left (Cell k) c may less = by_test (spares_right condition || (k == left)) where
-    by_test : (z : Bool) → is_less (if z then Some c else left_with k c (refine more (mirror_of condition) truth (cell_at a k) (cell_at a left))) (Some b) ≡ true
+    by_test : (z : Bool) → is_less (if z then Some c else left_with k c (refine more (mirror_of condition) truth (cell_at a k) (cell_at a left)))
+        (Some b) ≡ true
     by_test true = less
     by_test false =
         left_under c b k (refine more (mirror_of condition) truth (cell_at a k) (cell_at a left)) less

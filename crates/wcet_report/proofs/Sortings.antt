@@ -50,7 +50,8 @@ sorted_rest R x xs sorted = λ k d low less.
 rises_from : {X : Type 0} (R : X → X → Ordering) → IsTotalOrder R → (xs : List X) → IsSorted R xs → Rises R xs
 rises_from R o [] sorted = tt
 rises_from {X} R o (x ∷ xs) sorted = (
-  least_at R x xs (λ k d less. sorted_far (λ (a b : X). is_lt (R a b)) (ranks_by o (λ (a : X). a)) (x ∷ xs) sorted 0 (suc k) d (omega arith) (omega (arith, less))),
+  least_at R x xs (λ k d less. sorted_far (λ (a b : X). is_lt (R a b)) (ranks_by o (λ (a : X). a)) (x ∷ xs) sorted 0 (suc k) d (omega arith)
+      (omega (arith, less))),
   rises_from R o xs (sorted_rest R x xs sorted),
 )
 

@@ -1,5 +1,6 @@
 -- A report tells the outcomes that it is of.
-use Rattle.std.proofs.Common.{◌≡◌, ℕ, ◌+◌, ◌*◌, ◌^◌, ◌<◌, Bool, true, false, List, [], ◌∷◌, ◌++◌, map, get_or, refl, ap, sym, ◌∙◌, subst, arith, append_assoc, codes, if◌then◌else◌}
+use Rattle.std.proofs.Common.{◌≡◌, ℕ, ◌+◌, ◌*◌, ◌^◌, ◌<◌, Bool, true, false, List, [], ◌∷◌, ◌++◌, map, get_or, refl, ap, sym, ◌∙◌, subst, arith}
+use Rattle.std.proofs.Common.{append_assoc, codes, if◌then◌else◌}
 use Rattle.std.specs.List.{flat_map, AllZip}
 use Rattle.std.specs.Prelude.{◌&&◌, ◌==◌, All, IfSome, Option, Some, None}
 use Rattle.std.proofs.lemmas.List.Concat.{flat_map-append}
@@ -7,8 +8,10 @@ use Rattle.std.proofs.lemmas.List.Elements.{All-head, All-tail}
 use Rattle.std.proofs.lemmas.List.Sorted.{All-permutation}
 use Rattle.wcet_report.proofs.ContextTexts.{context_words_tell, no_argument_bound}
 use Rattle.wcet_report.proofs.Cuts.{Lacks}
-use Rattle.wcet_report.proofs.LineTexts.{Words, words_text, IsClean, AllClean, AreClean, lines_text, lines_tell, clean-cons, clean-append, word_clean, words_clean}
-use Rattle.wcet_report.proofs.LineWords.{function_clean, function_tells, bound_clean, bound_tells, context_clean, by_clean, by_tells, node_clean, reason_clean, reason_tells}
+use Rattle.wcet_report.proofs.LineTexts.{Words, words_text, IsClean, AllClean, AreClean, lines_text, lines_tell, clean-cons, clean-append, word_clean}
+use Rattle.wcet_report.proofs.LineTexts.{words_clean}
+use Rattle.wcet_report.proofs.LineWords.{function_clean, function_tells, bound_clean, bound_tells, context_clean, by_clean, by_tells, node_clean}
+use Rattle.wcet_report.proofs.LineWords.{reason_clean, reason_tells}
 use Rattle.wcet_report.proofs.Points.{node_tells}
 use Rattle.wcet_report.proofs.Sortings.{Each, each_of_all}
 use Rattle.wcet_report.specs.Context.{HasArguments, context_word, context_rest, is_open}
