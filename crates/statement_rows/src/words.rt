@@ -4,7 +4,7 @@ use std::alloc::Global;
 use std::test::Fail;
 
 /// Words that are refused.
-const REFUSED: [&str; 58] = [
+const REFUSED: [&str; 52] = [
     "",
     "bound",
     "bound i",
@@ -57,12 +57,6 @@ const REFUSED: [&str; 58] = [
     "decode --workers 1 i",
     "decode i --workers=1",
     "decode -h",
-    "graph",
-    "graph i c",
-    "graph i c a d",
-    "graph i c a --workers 65",
-    "--workers=2 graph i c a",
-    "graphs i c a",
 ];
 
 /// Words that ask for a bound, and what they ask for. A number may have a sign + and leading zeros.
@@ -91,20 +85,6 @@ const BOUND: [(&str, &str, &str, &str, u32); 24] = [
     ("bound i -- -- --", "i", "--", "--", 1),
     ("bound i --workers 3 c -- -a", "i", "c", "-a", 3),
     ("bound bound decode bound", "bound", "decode", "bound", 1),
-];
-
-/// Words that ask for a graph, and what they ask for.
-const GRAPH: [(&str, &str, &str, &str, u32); 4] = [
-    ("graph i c a", "i", "c", "a", 1),
-    ("graph --workers=2 i c a", "i", "c", "a", 2),
-    ("graph i c -- --workers", "i", "c", "--workers", 1),
-    (
-        "graph graph bound decode --workers 64",
-        "graph",
-        "bound",
-        "decode",
-        64,
-    ),
 ];
 
 /// Words that ask for a listing, and its image.
@@ -138,16 +118,6 @@ fn requests_of_words(rt: HostRuntime) -> Result<(), Fail> {
     for (text, image, cycles, assertions, workers) in BOUND {
         let words = call(alloc, text)?;
         let want = Request::Bound {
-            image,
-            cycles,
-            assertions,
-            workers,
-        };
-        assert!(rt; request_of(alloc, &words) == Ok(want), "at {text}");
-    }
-    for (text, image, cycles, assertions, workers) in GRAPH {
-        let words = call(alloc, text)?;
-        let want = Request::Graph {
             image,
             cycles,
             assertions,
