@@ -126,6 +126,7 @@ module _ {K V : Type 0} (cmp : K → K → Ordering) (m : Rules K V) (law : IsLa
     only_woken k (inl was) = inl (room_kept.only k was)
     only_woken k (inr p) = inr (p.1, reads_grown k p.0)
 
+    -- what was written of staged facts absorbs the pieces, by so many keys
     pub absorbed : Absorbs cmp m old pieces new (length ks)
     absorbed = record {
       joined = new_joined cmp m law old.facts risen kept.rise staged.rise new.facts rise all pieces staged;

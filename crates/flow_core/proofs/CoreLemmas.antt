@@ -40,6 +40,7 @@ module _ {K V : Type 0} (cmp : K → K → Ordering) (m : Rules K V) (law : IsLa
   empty_facts : K → Option V
   empty_facts = fact_at cmp []
 
+  -- a core without facts keeps what a core has to keep
   pub empty_kept : (limit : ℕ) (s : CoreState K V) → s.facts ≡ [] → s.marks ≡ [] → s.readers ≡ [] → s.count ≡ 0 → s.limit ≡ limit → KeysRise {V = V} cmp []
       → KeysRise {V = Bool} cmp [] → IsKept cmp m s
   empty_kept limit s facts marks readers count lim rise rise' = record {
@@ -71,6 +72,7 @@ module _ {K V : Type 0} (cmp : K → K → Ordering) (m : Rules K V) (law : IsLa
         (subst (λ o. IsTrue (has_grown m None o)) (sym e) refl));
   })
 
+  -- a core of the start pieces is good
   pub new_good : (old new : CoreState K V) (n : ℕ) → old.facts ≡ [] → old.marks ≡ [] → Absorbs cmp m old m.starts new n → IsGood cmp m new
   new_good old new n none marks a = record {
     part = record {
@@ -88,6 +90,7 @@ module _ {K V : Type 0} (cmp : K → K → Ordering) (m : Rules K V) (law : IsLa
   pub growth_same : (s : CoreState K V) → IsPart cmp m s → IsGrowth cmp m s s
   growth_same s part = record { below = below_itself cmp m law (fact_at cmp s.facts) part.fit; due = λ h. h; inside = λ h. h; limit = refl }
 
+  -- an unchanged core has grown by nothing
   pub growth_unchanged : (old new : CoreState K V) → IsPart cmp m old → IsUnchanged cmp m old new → IsGrowth cmp m old new
   growth_unchanged old new part same = record {
     below = subst (λ es. IsBelow m (fact_at cmp old.facts) (fact_at cmp es)) (sym same.facts) (below_itself cmp m law (fact_at cmp old.facts) part.fit);
@@ -112,6 +115,7 @@ module _ {K V : Type 0} (cmp : K → K → Ordering) (m : Rules K V) (law : IsLa
       fact_of : (r : K) (v : V) → fact_at cmp claim.copies r ≡ Some v → fact_at cmp s.facts r ≡ Some v
       fact_of r v e = sym (copy.same r (copy.only r (some_when _ v e))) ∙ e
 
+  -- a claim of the least key with copies of what it reads takes it
   pub takes_of : (s t : CoreState K V) (ks : List K) (claim : ClaimState K V) → IsLeast cmp s.marks claim.key → ks ≡ m.reads claim.key
       → IsCopy cmp s.facts ks claim.copies → t ≡ with_claim cmp s claim.key → Takes cmp m s claim t
   takes_of s t ks claim least reads copy is = record {
@@ -121,6 +125,7 @@ module _ {K V : Type 0} (cmp : K → K → Ordering) (m : Rules K V) (law : IsLa
     state = is;
   }
 
+  -- the core behind a claim is that with the claim
   pub took_state : (s : CoreState K V) (j k : K) (marks : List (K × Bool)) (list : List K) → j ≡ k → marks ≡ with_mark cmp s.marks k false
       → list ≡ s.out ++ j ∷ []
       → record { facts = s.facts; marks = marks; out = list; readers = s.readers; count = s.count; limit = s.limit } ≡ with_claim cmp s k
@@ -129,6 +134,7 @@ module _ {K V : Type 0} (cmp : K → K → Ordering) (m : Rules K V) (law : IsLa
       ∙ ap (λ (x : List K). record { facts = s.facts; marks = with_mark cmp s.marks k false; out = x; readers = s.readers; count = s.count; limit = s.limit })
       (out_is ∙ ap (λ x. s.out ++ x ∷ []) same)
 
+  -- a claim only grows a core
   pub growth_claim : (s : CoreState K V) (k : K) → IsPart cmp m s → IsGrowth cmp m s (with_claim cmp s k)
   growth_claim s k part = record {
     below = below_itself cmp m law (fact_at cmp s.facts) part.fit;
@@ -234,6 +240,7 @@ module _ {K V : Type 0} (cmp : K → K → Ordering) (m : Rules K V) (law : IsLa
             (subst (λ x. IsKey cmp mid x) e is, stale (sym e) not_fresh)) (mark_only cmp law.keys.total mid.marks answer.claim.key k p)
         only_cases false is k p = from_mid k p
 
+  -- a merge only grows a core
   pub growth_merge : (old new : CoreState K V) (answer : AnswerState K V) (n : ℕ) → IsPart cmp m old → IsAnswerOf cmp m answer → Merges cmp m old answer new n
       → IsGrowth cmp m old new
   growth_merge old new answer n part of merges = record {
@@ -245,6 +252,7 @@ module _ {K V : Type 0} (cmp : K → K → Ordering) (m : Rules K V) (law : IsLa
 
 -- the list without its first of a key, found or not
 module _ {K : Type 0} (cmp : K → K → Ordering) where
+  -- the first of a list that is a key is the one that is struck
   pub struck_at : (out : List K) (k : K) (i : ℕ) → i < length out → ((j : ℕ) (d : K) → j < i → is_eq (cmp k (get_or out j d)) ≡ false) → (x : K)
       → x ≡ get_or out i x → Equal ≡ cmp k x → remove out i ≡ strike cmp out k
   struck_at out k i within before x at is =
@@ -253,6 +261,7 @@ module _ {K : Type 0} (cmp : K → K → Ordering) where
       let t : ltb i (length out) ≡ true = search (rules, tests, within) in
       ap (λ b. without_place out (cond b (Some i) None)) (sym t) ∙ ap (λ n. without_place out (cond (ltb n (length out)) (Some n) None)) (sym p)
 
+  -- a list without a key stays as it is where that is struck
   pub struck_none : (out : List K) (k : K) (i : ℕ) → length out ≤ i → ((j : ℕ) (d : K) → j < i → is_eq (cmp k (get_or out j d)) ≡ false)
       → out ≡ strike cmp out k
   struck_none [] k i past before = refl
@@ -273,12 +282,14 @@ module _ {K : Type 0} (cmp : K → K → Ordering) where
       last_or_before : (a b : ℕ) → a < b + 1 → (a < b) ⊎ (a ≡ b)
       last_or_before a b h = grind (arith, cases_lt a b)
 
+-- keys that don't compare as equal test so
 pub not_equal_is_eq : (r o : Ordering) → r ≡ o → (r ≡ Equal → ⊥) → is_eq o ≡ false
 not_equal_is_eq r Less e h = refl
 not_equal_is_eq r Equal e h = absurd (h e)
 not_equal_is_eq r Greater e h = refl
 
 module _ {K V : Type 0} (cmp : K → K → Ordering) (m : Rules K V) (law : IsLawful cmp m) where
+  -- a merge of an answer whose copies still are the facts
   pub merged_fresh : (old mid new : CoreState K V) (answer : AnswerState K V) (n : ℕ) (pieces : List (K × V)) (key : K) (copies facts : List (K × V))
       (ks : List K) → pieces ≡ answer.pieces → key ≡ answer.claim.key → copies ≡ answer.claim.copies → facts ≡ old.facts → ks ≡ m.reads key
       → Absorbs cmp m old pieces mid n → IsPart cmp m old → AgreesAt cmp copies facts ks → new ≡ struck cmp mid key → Merges cmp m old answer new n
@@ -288,6 +299,7 @@ module _ {K V : Type 0} (cmp : K → K → Ordering) (m : Rules K V) (law : IsLa
       (λ r listed. ap (λ es. fact_at cmp es r) (sym ec) ∙ agree r (subst (λ list. Contains list r) (sym (er ∙ ap m.reads ek)) listed) ∙ ap
       (λ es. fact_at cmp es r) ef))
 
+  -- a merge of an answer whose copies are old: its key is pending again
   pub merged_stale : (old mid new : CoreState K V) (answer : AnswerState K V) (n : ℕ) (pieces : List (K × V)) (key : K) (copies facts : List (K × V))
       (ks : List K) → pieces ≡ answer.pieces → key ≡ answer.claim.key → copies ≡ answer.claim.copies → facts ≡ old.facts → ks ≡ m.reads key
       → Absorbs cmp m old pieces mid n → IsPart cmp m old → (AgreesAt cmp copies facts ks → ⊥) → new ≡ without_claim cmp mid key → Merges cmp m old answer new n
@@ -297,9 +309,11 @@ module _ {K V : Type 0} (cmp : K → K → Ordering) (m : Rules K V) (law : IsLa
       (λ fresh. differ (λ r listed. ap (λ es. fact_at cmp es r) ec ∙ fresh r (subst (λ list. Contains list r) (er ∙ ap m.reads ek) listed) ∙ ap
       (λ es. fact_at cmp es r) (sym ef))))
 
+  -- the pieces of an answer fit
   pub pieces_fit : (answer : AnswerState K V) (pieces : List (K × V)) → pieces ≡ answer.pieces → IsAnswerOf cmp m answer → PiecesFit m pieces
   pieces_fit answer pieces e of = subst (λ list. PiecesFit m list) (sym e) (answer_fits cmp m law answer of)
 
+-- a queue that has a least key has a marked one
 pub busy_least : {K : Type 0} (cmp : K → K → Ordering) (marks : List (K × Bool)) (o : Option K) → is_some o ≡ true → IfSome o (λ k. IsLeast cmp marks k)
     → ((k : K) → IsMarked cmp marks k → ⊥) → ⊥
 busy_least cmp marks None s l nothing = cc

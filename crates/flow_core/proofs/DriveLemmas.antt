@@ -18,6 +18,7 @@ use Rattle.flow_core.proofs.CoreLemmas.{struck_at}
 use Rattle.flow_core.proofs.QueueLemmas.{at_itself, equal_from_is_eq}
 
 module _ {K V : Type 0} (cmp : K → K → Ordering) (m : Rules K V) (law : IsLawful cmp m) where
+  -- a good core stays good where all that is out is pending again
   pub struck_all_good : (s : CoreState K V) (marks' : List (K × Bool)) → MarksAll cmp s.facts s.out s.marks marks' → IsGood cmp m s
       → IsGood cmp m (record { facts = s.facts; marks = marks'; out = []; readers = s.readers; count = s.count; limit = s.limit })
   struck_all_good s marks' marks good = record {
@@ -56,6 +57,7 @@ module _ {K V : Type 0} (cmp : K → K → Ordering) (m : Rules K V) (law : IsLa
         (subst (λ list. Contains list (k, v)) of.pieces listed) (fact_at cmp t) closed),
   )
 
+  -- a list of one key is empty once that is struck
   pub struck_only : (k : K) → strike cmp ([] ++ k ∷ []) k ≡ []
   struck_only k = sym (struck_at cmp (k ∷ []) k 0 (omega arith) (λ j d h. absurd (omega (arith, h))) k refl
       (sym (equal_from_is_eq (cmp k k) (at_itself cmp law.keys.total k))))

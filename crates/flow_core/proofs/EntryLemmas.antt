@@ -24,6 +24,7 @@ abbrev pub weight_at : {K V : Type 0} → (K × V → ℕ) → K → Option V �
 weight_at f k None = 0
 weight_at f k (Some v) = f (k, v)
 
+-- what isn't there has nothing
 pub none_or_some : {X G : Type 0} (o : Option X) → o ≡ None → IsSome o → G
 none_or_some o e s = let t : false ≡ true = subst (λ (p : Option _). is_some p ≡ true) e s in absurd (cc)
 
@@ -34,9 +35,11 @@ module _ {K : Type 0} (cmp : K → K → Ordering) (keys : OrdersKeys cmp) where
   flip : (q k : K) → is_eq (cmp q k) ≡ is_eq (cmp k q)
   flip q k = equiv.symm q k
 
+  -- keys that compare as equal are one
   pub same_key : (j k : K) → is_eq (cmp j k) ≡ true → j ≡ k
   same_key j k h = keys.exact j k (equal_from_is_eq (cmp j k) h)
 
+  -- a key compares as equal to itself
   pub self_key : (k : K) → is_eq (cmp k k) ≡ true
   self_key k = equiv.refl k
 
@@ -94,6 +97,7 @@ module _ {K : Type 0} (cmp : K → K → Ordering) (keys : OrdersKeys cmp) where
         all_cases Equal rest = (all.0, all.1)
         all_cases Greater rest = (all.0, rest)
 
+    -- an entry that is put in keeps the keys rising
     pub insert_rise : (es : List (K × V)) (k : K) (v : V) → KeysRise cmp es → KeysRise cmp (insert_entry cmp es k v)
     insert_rise [] k v rise = sorted_one k
     insert_rise (e ∷ es) k v rise = rise_cases (cmp k e.0) refl (insert_rise es k v (sorted_tail cmp e.0 (keys_of es) rise))
@@ -130,10 +134,12 @@ module _ {K : Type 0} (cmp : K → K → Ordering) (keys : OrdersKeys cmp) where
     overlay [] old = old
     overlay (e ∷ es) old = overlay es (insert_entry cmp old e.0 e.1)
 
+    -- entries written over rising ones rise
     pub overlay_rise : (risen old : List (K × V)) → KeysRise cmp old → KeysRise cmp (overlay risen old)
     overlay_rise [] old rise = rise
     overlay_rise (e ∷ es) old rise = overlay_rise es (insert_entry cmp old e.0 e.1) (insert_rise old e.0 e.1 rise)
 
+    -- written over others, the facts are the risen ones, and else the old
     pub overlay_at : (risen old : List (K × V)) → KeysRise cmp risen → (q : K)
         → fact_at cmp (overlay risen old) q ≡ over (fact_at cmp risen q) (fact_at cmp old q)
     overlay_at [] old rise q = refl
@@ -158,6 +164,7 @@ module _ {K : Type 0} (cmp : K → K → Ordering) (keys : OrdersKeys cmp) where
         let here : g e ≡ h e = ap (weight_at f e.0) (insert_at old k v e.0 ∙ ap (λ o. cond (is_eq o) (Some v) (fact_at cmp old e.0)) all.0) in
         omega (arith, here, sum_apart f es old k v all.1, sum_by-cons g e es, sum_by-cons h e es)
 
+    -- a sum over the entries written over others, by those that they replace
     pub overlay_sum : (f : K × V → ℕ) (risen old : List (K × V)) → KeysRise cmp risen → KeysRise cmp old
         → sum_by f (overlay risen old) + sum_by (λ e. weight_at f e.0 (fact_at cmp old e.0)) risen ≡ sum_by f old + sum_by f risen
     overlay_sum f [] old rise rise' = omega arith
@@ -262,11 +269,13 @@ module _ {K : Type 0} (cmp : K → K → Ordering) (keys : OrdersKeys cmp) where
         let e = get_or es i d in
         lookup_from_place equiv es i e.0 e.1 (IsDistinct-from_sorted cmp (keys_of es) rise) (slice_get-get_or es i d within)
 
+    -- a sum of nothing at each entry is 0
     pub sum_zero : (f : K × V → ℕ) (es : List (K × V)) → KeysRise cmp es → ((k : K) (v : V) → fact_at cmp es k ≡ Some v → f (k, v) ≡ 0) → sum_by f es ≡ 0
     sum_zero f es rise h =
         let l = sum_by-le f 0 es (λ i d within. let z = h (get_or es i d).0 (get_or es i d).1 (fact_at_place es rise i d within) in omega (arith, z)) in
         omega (arith, l)
 
+    -- a sum of one at each entry is their number
     pub sum_ones : (f : K × V → ℕ) (es : List (K × V)) → KeysRise cmp es → ((k : K) (v : V) → fact_at cmp es k ≡ Some v → f (k, v) ≡ 1)
         → sum_by f es ≡ length es
     sum_ones f [] rise h = refl

@@ -72,6 +72,7 @@ module _ {K V : Type 0} (cmp : K → K → Ordering) (m : Rules K V) (law : IsLa
           let same : u ≡ w = law.order.both r u w (fo r u ea) (fn r w eb) up (not_true (m.at_most w u) g) in
           ea ∙ ap Some same ∙ sym eb
 
+  -- the facts of a good core that is idle are the due graph
   pub idle_is_due : (s : CoreState K V) → IsGood cmp m s → IsIdle cmp s → IsDueGraph m (fact_at cmp s.facts)
   idle_is_due s good idle = record {
     closed = record {
@@ -115,6 +116,7 @@ module _ {K V : Type 0} (cmp : K → K → Ordering) (m : Rules K V) (law : IsLa
   still_given old new fo fn below k none has =
       subst (λ pieces. ContainsAll m new pieces) (same_gives cmp m law old new fo fn k (λ r listed. same_fact old new fo fn below r (none r listed))) has
 
+  -- a merge keeps what a part has to keep
   pub merge_keeps_part : (old new : CoreState K V) (answer : AnswerState K V) (n : ℕ) → IsPart cmp m old → IsAnswerOf cmp m answer
       → Merges cmp m old answer new n → IsPart cmp m new
   merge_keeps_part old new answer n part of event = record {
@@ -160,6 +162,7 @@ module _ {K V : Type 0} (cmp : K → K → Ordering) (m : Rules K V) (law : IsLa
           (good.settled k (subst (λ fact. IsSome fact) (sym (same_fact o w good.part.fit event.joined.fit event.joined.below k (all k (law.looks.itself k))))
           key))
 
+  -- a merge keeps a good core good
   pub merge_keeps : (old new : CoreState K V) (answer : AnswerState K V) (n : ℕ) → IsGood cmp m old → IsAnswerOf cmp m answer → Merges cmp m old answer new n
       → IsGood cmp m new
   merge_keeps old new answer n good of event = record {
@@ -186,6 +189,7 @@ module _ {K V : Type 0} (cmp : K → K → Ordering) (m : Rules K V) (law : IsLa
     };
   }
 
+  -- a claim keeps a good core good
   pub claim_keeps : (s : CoreState K V) (k : K) → IsGood cmp m s → IsGood cmp m (with_claim cmp s k)
   claim_keeps s k good = record {
     part = claim_keeps_part s k good.part;
@@ -203,6 +207,7 @@ module _ {K V : Type 0} (cmp : K → K → Ordering) (m : Rules K V) (law : IsLa
   back_marks : CoreState K V → K → List (K × Bool)
   back_marks s k = cond (is_some (fact_at cmp s.facts k)) (with_mark cmp s.marks k true) s.marks
 
+  -- a claim that is given back keeps what a part has to keep
   pub back_keeps_part : (s : CoreState K V) (k : K) → IsPart cmp m s → IsPart cmp m (without_claim cmp s k)
   back_keeps_part s k part = record {
     fit = part.fit;
@@ -232,6 +237,7 @@ module _ {K V : Type 0} (cmp : K → K → Ordering) (m : Rules K V) (law : IsLa
       room_cases true q h = mark_room cmp law.keys.total s.marks k true q h
       room_cases false q h = h
 
+  -- a claim that is given back keeps a good core good
   pub back_keeps : (s : CoreState K V) (k : K) → IsGood cmp m s → IsGood cmp m (without_claim cmp s k)
   back_keeps s k good = record {
     part = back_keeps_part s k good.part;
@@ -255,6 +261,7 @@ module _ {K V : Type 0} (cmp : K → K → Ordering) (m : Rules K V) (law : IsLa
           (struck s.out k q c)
       back_cases q key (given g) = given g
 
+  -- an unchanged part keeps what it has to keep
   pub unchanged_keeps_part : (old new : CoreState K V) → IsUnchanged cmp m old new → IsPart cmp m old → IsPart cmp m new
   unchanged_keeps_part old new same part = record {
     fit = subst (λ facts. AllFit m (fact_at cmp facts)) (sym same.facts) part.fit;
@@ -263,6 +270,7 @@ module _ {K V : Type 0} (cmp : K → K → Ordering) (m : Rules K V) (law : IsLa
     kept = same.kept part.kept;
   }
 
+  -- an unchanged core stays good
   pub unchanged_keeps : (old new : CoreState K V) → IsUnchanged cmp m old new → IsGood cmp m old → IsGood cmp m new
   unchanged_keeps old new same good = record {
     part = unchanged_keeps_part old new same good.part;
@@ -275,6 +283,7 @@ module _ {K V : Type 0} (cmp : K → K → Ordering) (m : Rules K V) (law : IsLa
       unchanged_cases q (out c) = out (subst (λ list. Contains list q) (sym same.out) c)
       unchanged_cases q (given g) = given (subst (λ facts. ContainsAll m (fact_at cmp facts) (m.gives q (fact_at cmp facts))) (sym same.facts) g)
 
+  -- a core is unchanged against itself
   pub same_is_unchanged : (s : CoreState K V) → IsUnchanged cmp m s s
   same_is_unchanged s = record { facts = refl; pending = λ k p. p; stays = λ k p. p; out = refl; limit = refl; kept = λ kept. kept }
 

@@ -51,6 +51,7 @@ module _ {K V : Type 0} (cmp : K → K → Ordering) (m : Rules K V) (law : IsLa
     pub there : (u : V) → before ≡ Some u → IsTrue (m.at_most u w)
     pub least : (x : V) → IsTrue (m.fits k x) → IsTrue (m.at_most v x) → ((u : V) → before ≡ Some u → IsTrue (m.at_most u x)) → IsTrue (m.at_most w x)
 
+  -- a piece at a key without a fact raises it to itself
   pub raised_new : (k : K) (v : V) → IsTrue (m.fits k v) → IsRaised k v None v
   raised_new k v fit = record {
     fit = fit;
@@ -59,6 +60,7 @@ module _ {K V : Type 0} (cmp : K → K → Ordering) (m : Rules K V) (law : IsLa
     least = λ x fx up there. up;
   }
 
+  -- a piece raises a fact to the join of both
   pub raised_join : (k : K) (v u : V) → IsTrue (m.fits k v) → IsTrue (m.fits k u) → IsRaised k v (Some u) (m.join u v)
   raised_join k v u fv fu = record {
     fit = law.fit.join k u v fu fv;
@@ -137,6 +139,7 @@ module _ {K V : Type 0} (cmp : K → K → Ordering) (m : Rules K V) (law : IsLa
     rise = rise;
   }
 
+  -- a piece that the staged facts contain stages nothing more
   pub stage_contained : (facts done risen : List (K × V)) (k : K) (v u : V) → IsStaged cmp m facts done risen → written cmp facts risen k ≡ Some u
       → IsTrue (m.at_most v u) → IsStaged cmp m facts (done ++ (k, v) ∷ []) risen
   stage_contained facts done risen k v u staged found up = record {
@@ -145,6 +148,7 @@ module _ {K V : Type 0} (cmp : K → K → Ordering) (m : Rules K V) (law : IsLa
     rise = staged.rise;
   }
 
+  -- a piece that raises a fact is staged with it
   pub stage_raised : (facts done risen risen' : List (K × V)) (k : K) (v w : V) → AllFit m (fact_at cmp facts) → PiecesFit m done → IsTrue (m.fits k v)
       → IsStaged cmp m facts done risen → IsRaised k v (written cmp facts risen k) w → ((u : V) → written cmp facts risen k ≡ Some u → m.at_most v u ≡ false)
       → Writes cmp risen risen' k (Some w) → KeysRise cmp risen' → IsStaged cmp m facts (done ++ (k, v) ∷ []) risen'
@@ -223,12 +227,15 @@ module _ {K V : Type 0} (cmp : K → K → Ordering) (m : Rules K V) (law : IsLa
       whole = same_entries cmp law.keys new (overlay cmp law.keys risen facts) rise_new (overlay_rise cmp law.keys risen facts rise)
           (λ q. all q ∙ sym (overlay_at cmp law.keys risen facts rise' q))
 
+      -- the counted keys are those of before and the fresh ones among the risen
       pub new_count : counted_keys m new ≡ counted_keys m facts + count_by (is_fresh_key cmp m facts) (keys_of risen)
       new_count = ap (counted_keys m) whole ∙ overlay_count
 
+      -- the facts with the risen ones written over them are joined with the pieces
       pub new_joined : (pieces : List (K × V)) → IsStaged cmp m facts pieces risen → Joins m (fact_at cmp facts) pieces (fact_at cmp new)
       new_joined pieces staged = subst (λ s. Joins m (fact_at cmp facts) pieces s) (fun_ext (λ q. sym (all q))) staged.joined
 
+      -- the keys that have grown are those of the risen facts
       pub new_grown : (pieces : List (K × V)) → AllFit m (fact_at cmp facts) → IsStaged cmp m facts pieces risen → grown_count cmp m facts new ≡ length risen
       new_grown pieces fit staged =
           let f : K × V → ℕ = λ e. cond (has_grown m (fact_at cmp facts e.0) (Some e.1)) 1 0 in

@@ -19,6 +19,7 @@ use Rattle.flow_core.proofs.QueueLemmas.{some_when, some_from_IsSome}
 use Rattle.flow_core.proofs.StateLemmas.{joins_due}
 
 module _ {K V : Type 0} (cmp : K → K → Ordering) (m : Rules K V) (law : IsLawful cmp m) where
+  -- a part without facts keeps what a part has to keep
   pub empty_part : (s : CoreState K V) → s.facts ≡ [] → s.marks ≡ [] → IsKept cmp m s → IsPart cmp m s
   empty_part s facts marks kept = record {
     fit = λ k v e. let f : None ≡ Some v = sym (ap (λ es. fact_at cmp es k) facts) ∙ e in absurd (cc);
@@ -86,11 +87,13 @@ module _ {K V : Type 0} (cmp : K → K → Ordering) (m : Rules K V) (law : IsLa
   joined_part old new pieces (Ok n) part due a same = join_keeps_part old new pieces n part due a
   joined_part old new pieces (Err e) part due a same = unchanged_keeps_part cmp m law old new same part
 
+  -- pieces that are joined to a part only grow it
   pub joined_growth : (old new : CoreState K V) (pieces : List (K × V)) (r : Result ℕ GrowRefusal) → IsPart cmp m old → AllDue m pieces
       → IfOk r (Absorbs cmp m old pieces new) → OnErr r (IsUnchanged cmp m old new) → IsGrowth cmp m old new
   joined_growth old new pieces (Ok n) part due a same = growth_join old new pieces n due a
   joined_growth old new pieces (Err e) part due a same = growth_unchanged cmp m law old new part same
 
+  -- pieces that pass the limit of a part say that the due graph does
   pub joined_too_big : (s : CoreState K V) (pieces : List (K × V)) (r : Result ℕ GrowRefusal) → IsPart cmp m s → AllDue m pieces
       → IfErr r (IsPassing cmp m s.facts pieces s.limit) → IfErr r (IsTooBig cmp m s.limit)
   joined_too_big s pieces (Ok n) part due passing = tt

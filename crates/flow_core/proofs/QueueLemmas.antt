@@ -24,6 +24,7 @@ use Rattle.std.specs.declared.alloc.Global.{Global}
 use Rattle.flow_system.specs.Facts.{fact_at, KeysRise}
 use Rattle.flow_core.specs.Queue.{tally, tally_at, IsMarked, HasRoom, with_mark, IsLeast, downward, occurrences, IsQueue, KeepsRoom}
 
+-- an order that tests as equal is equal
 pub equal_from_is_eq : (o : Ordering) → is_eq o ≡ true → o ≡ Equal
 equal_from_is_eq Less h = cc
 equal_from_is_eq Equal h = refl
@@ -55,6 +56,7 @@ module _ {K : Type 0} (cmp : K → K → Ordering) (total : IsTotalOrder cmp) wh
   pub alike : {X : Type 0} (es : List (K × X)) (k q : K) → is_eq (cmp k q) ≡ true → fact_at cmp es q ≡ fact_at cmp es k
   alike es k q h = lookup_alike (is_at (cmp q)) (is_at (cmp k)) (λ x. sym (equiv.congr k q x h)) es
 
+  -- a key compares as equal to itself
   pub at_itself : (k : K) → is_eq (cmp k k) ≡ true
   at_itself k = equiv.refl k
 
@@ -90,9 +92,11 @@ module _ {K : Type 0} (cmp : K → K → Ordering) (total : IsTotalOrder cmp) wh
       cleared_cases true e = let e' : fact_at cmp marks q ≡ Some true = alike marks k q e ∙ h in rw e' refl
       cleared_cases false e = omega arith
 
+  -- a value that is changed keeps the keys rising
   pub rise_marked : {X : Type 0} (es : List (K × X)) (k : K) (w : X) → KeysRise cmp es → KeysRise cmp (set_value (is_at (cmp k)) es w)
   rise_marked es k w h = subst (λ (ks : List K). IsStrictlySortedBy cmp ks) (sym (keys-set_value (is_at (cmp k)) es w)) h
 
+  -- a queue with one key more is that of the marks with that key
   pub marked_queue : (marks : List (K × Bool)) (heap heap' : BinaryHeap (Reverse K) Global) (k : K) (top : Reverse K) → top.0 ≡ k → IsQueue cmp marks heap
       → fact_at cmp marks k ≡ Some false → IsPermutation (top ∷ heap_items heap) (heap_items heap')
       → KeepsHeap (downward cmp) (heap_items heap) (heap_items heap') → heap_len heap' ≡ heap_len heap + 1 → heap_capacity heap ≤ heap_capacity heap'
@@ -115,6 +119,7 @@ module _ {K : Type 0} (cmp : K → K → Ordering) (total : IsTotalOrder cmp) wh
       let i : tally (is_eq (cmp top.0 top.0)) ≡ 1 = ap tally (at_itself top.0) in
       marked_from_tally (fact_at cmp marks top.0) (omega (arith, q.each top.0, p, i))
 
+  -- a queue without its top is that of the marks without it
   pub popped_queue : (marks : List (K × Bool)) (heap heap' : BinaryHeap (Reverse K) Global) (top : Reverse K) → IsQueue cmp marks heap
       → IsPermutation (heap_items heap) (top ∷ heap_items heap') → IsHeap (downward cmp) (heap_items heap') → heap_len heap' + 1 ≡ heap_len heap
       → heap_capacity heap' ≡ heap_capacity heap → IsQueue cmp (with_mark cmp marks top.0 false) heap'
@@ -150,6 +155,7 @@ module _ {K : Type 0} (cmp : K → K → Ordering) (total : IsTotalOrder cmp) wh
           let t : tally (is_eq (cmp q x.0)) ≡ 0 = ap tally e in
           rest (omega (arith, s, t, h))
 
+  -- the top of a queue is the least marked key
   pub top_is_least : (marks : List (K × Bool)) (heap : BinaryHeap (Reverse K) Global) (top : Reverse K) → IsQueue cmp marks heap
       → IsUpperBound (downward cmp) top (heap_items heap) → fact_at cmp marks top.0 ≡ Some true → IsLeast cmp marks top.0
   top_is_least marks heap top q b h = record {
@@ -175,6 +181,7 @@ module _ {K : Type 0} (cmp : K → K → Ordering) (total : IsTotalOrder cmp) wh
       roomy_cases x true e = let e' : fact_at cmp marks x ≡ None = alike marks k x e ∙ h in rw e' refl
       roomy_cases x false e = refl
 
+  -- a queue has no more keys than there are marks
   pub total-le : (marks : List (K × Bool)) (heap : BinaryHeap (Reverse K) Global) → IsQueue cmp marks heap → heap_len heap ≤ length marks
   total-le marks heap q =
       let e = sum_by-le tally 1 (values_of marks) (λ k d h. tally-le _) in
@@ -222,13 +229,16 @@ module _ {K : Type 0} (cmp : K → K → Ordering) (total : IsTotalOrder cmp) wh
       idle_cases (Some true) e = sym (set_value_same (is_at (cmp k)) marks true e)
       idle_cases (Some false) e = absurd (idle e)
 
+-- what isn't there is none
 pub none_from_absent : {X : Type 0} (o : Option X) → is_some o ≡ false → o ≡ None
 none_from_absent None h = refl
 none_from_absent (Some x) h = cc
 
+-- what is something is there
 pub some_when : {X : Type 0} (o : Option X) (x : X) → o ≡ Some x → IsSome o
 some_when o x h = subst (λ (p : Option _). IsSome p) (sym h) refl
 
+-- a call that fails only where nothing is there succeeds where something is
 pub ok_unless_absent : {X T E : Type 0} (o : Option X) (r : Result T E) → IsSome o → OnErr r (o ≡ None) → IsOk r
 ok_unless_absent o (Ok t) s h = refl
 ok_unless_absent o (Err e) s h = let t : is_some o ≡ true = s in let f : is_some o ≡ false = ap is_some h in cc
@@ -244,9 +254,11 @@ module _ {K : Type 0} (cmp : K → K → Ordering) (total : IsTotalOrder cmp) wh
       let j : f (get_or (heap_items heap) 0 top) ≡ f top = ap f (sym is) in
       marked_from_tally (fact_at cmp marks top.0) (omega (arith, q.each top.0, l, i, j))
 
+-- a list with a new key is one longer
 pub length_one_more : {X : Type 0} (o : Option X) (m n : ℕ) → n ≡ m + cond (is_some o) 0 1 → o ≡ None → n ≡ m + 1
 length_one_more o m n h e = h ∙ ap (λ p. m + cond (is_some p) 0 1) e
 
+-- what is there can be taken
 pub some_from_IsSome : {X : Type 0} {G : Type 0} (o : Option X) → IsSome o → ((x : X) → o ≡ Some x → G) → G
 some_from_IsSome None s f = let t : false ≡ true = s in absurd (cc)
 some_from_IsSome (Some x) s f = f x refl
@@ -268,6 +280,7 @@ module _ {K : Type 0} (cmp : K → K → Ordering) (total : IsTotalOrder cmp) (m
       mark_cases None e = same (set_absent cmp total marks k b e) e
       mark_cases (Some x) e = written (at_set cmp total marks k b (some_when _ x e) q)
 
+  -- a mark changes no room
   pub mark_room : (b : Bool) (q : K) → HasRoom cmp marks q → HasRoom cmp (with_mark cmp marks k b) q
   mark_room b q h = mark_at b q (λ same none. subst (λ list. HasRoom cmp list q) (sym same) h)
       (λ e. subst (λ (o : Option Bool). IsSome o) (sym e) (room_cases (is_eq (cmp k q))))
@@ -276,9 +289,11 @@ module _ {K : Type 0} (cmp : K → K → Ordering) (total : IsTotalOrder cmp) (m
       room_cases true = refl
       room_cases false = h
 
+  -- a key with room is marked once it is
   pub mark_here : HasRoom cmp marks k → IsMarked cmp (with_mark cmp marks k true) k
   mark_here room = at_set cmp total marks k true room k ∙ ap (λ t. cond t (Some true) (fact_at cmp marks k)) (at_itself cmp total k)
 
+  -- a marked key stays so
   pub mark_stays : (q : K) → IsMarked cmp marks q → IsMarked cmp (with_mark cmp marks k true) q
   mark_stays q h = mark_at true q (λ same none. subst (λ list. IsMarked cmp list q) (sym same) h) (λ e. e ∙ stays_cases (is_eq (cmp k q)))
     where
@@ -286,6 +301,7 @@ module _ {K : Type 0} (cmp : K → K → Ordering) (total : IsTotalOrder cmp) (m
       stays_cases true = refl
       stays_cases false = h
 
+  -- a key that is marked after another was is that one, or was marked
   pub mark_only : (q : K) → IsMarked cmp (with_mark cmp marks k true) q → IsMarked cmp marks q ⊎ (is_eq (cmp k q) ≡ true)
   mark_only q h = mark_at true q (λ same none. inl (subst (λ list. IsMarked cmp list q) same h)) (λ e. only_cases (is_eq (cmp k q)) refl (sym e ∙ h))
     where
@@ -293,6 +309,7 @@ module _ {K : Type 0} (cmp : K → K → Ordering) (total : IsTotalOrder cmp) (m
       only_cases true is e = inr is
       only_cases false is e = inl e
 
+  -- a marked key stays so where another is cleared
   pub clear_stays : (q : K) → IsMarked cmp marks q → IsMarked cmp (with_mark cmp marks k false) q ⊎ (is_eq (cmp k q) ≡ true)
   clear_stays q h = mark_at false q (λ same none. inl (subst (λ list. IsMarked cmp list q) (sym same) h)) (λ e. clear_cases (is_eq (cmp k q)) refl e)
     where
@@ -301,6 +318,7 @@ module _ {K : Type 0} (cmp : K → K → Ordering) (total : IsTotalOrder cmp) (m
       clear_cases true is e = inr is
       clear_cases false is e = inl (e ∙ h)
 
+  -- a key that is marked after another was cleared was marked
   pub clear_only : (q : K) → IsMarked cmp (with_mark cmp marks k false) q → IsMarked cmp marks q
   clear_only q h = mark_at false q (λ same none. subst (λ list. IsMarked cmp list q) same h) (λ e. clear_cases (is_eq (cmp k q)) (sym e ∙ h))
     where

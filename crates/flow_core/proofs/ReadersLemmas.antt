@@ -11,6 +11,7 @@ use Rattle.flow_system.specs.Facts.{fact_at}
 use Rattle.flow_core.specs.Readers.{lists_of, list_or_none, readers_of, AddsReader, SameReaders}
 use Rattle.flow_core.proofs.QueueLemmas.{alike, at_set, some_when}
 
+-- what always holds holds on a refusal
 pub on_err_always : {T E P : Type 0} (r : Result T E) → P → OnErr r P
 on_err_always (Ok x) p = tt
 on_err_always (Err e) p = p
@@ -34,9 +35,11 @@ module _ {K : Type 0} (cmp : K → K → Ordering) where
       readers_cases true rest = refl
       readers_cases false rest = rest
 
+  -- a key without a list has no readers
   pub readers_none : (es : List (K × Vec K Global)) (q : K) → fact_at cmp es q ≡ None → readers_of cmp (lists_of es) q ≡ []
   readers_none es q h = readers-is es q ∙ ap held h
 
+  -- the readers of a key are those of its list
   pub readers_some : (es : List (K × Vec K Global)) (q : K) (list : Vec K Global) → Some list ≡ fact_at cmp es q → readers_of cmp (lists_of es) q ≡ list.items
   readers_some es q list h = readers-is es q ∙ ap held (sym h)
 
@@ -49,9 +52,11 @@ module _ {K : Type 0} (cmp : K → K → Ordering) where
         written_cases true = refl
         written_cases false = sym (readers-is es q)
 
+    -- a list with one reader more adds it
     pub adds_reader : (reader : K) → w.items ≡ readers_of cmp (lists_of es) k ++ reader ∷ [] → AddsReader cmp (lists_of es) (lists_of es') k reader
     adds_reader reader h q = readers_written q ∙ ap (λ list. cond (is_eq (cmp k q)) list (readers_of cmp (lists_of es) q)) h
 
+    -- a list with the same readers changes none
     pub same_readers : w.items ≡ readers_of cmp (lists_of es) k → SameReaders cmp (lists_of es) (lists_of es')
     same_readers h q = readers_written q ∙ same_cases (is_eq (cmp k q)) refl
       where
@@ -59,6 +64,7 @@ module _ {K : Type 0} (cmp : K → K → Ordering) where
         same_cases true e = h ∙ readers-is es k ∙ ap held (sym (alike cmp total es k q e)) ∙ sym (readers-is es q)
         same_cases false e = refl
 
+  -- a list that is changed is found at its key, and the others as they were
   pub set_written : (total : IsTotalOrder cmp) (es es' : List (K × Vec K Global)) (k : K) (list w : Vec K Global) → Some list ≡ fact_at cmp es k
       → es' ≡ set_value (is_at (cmp k)) es w → (q : K) → fact_at cmp es' q ≡ cond (is_eq (cmp k q)) (Some w) (fact_at cmp es q)
   set_written total es es' k list w h is q = subst (λ entries. fact_at cmp entries q ≡ cond (is_eq (cmp k q)) (Some w) (fact_at cmp es q)) (sym is)

@@ -47,18 +47,21 @@ module _ {K V : Type 0} (cmp : K → K → Ordering) (keys : OrdersKeys cmp) whe
       only_cases q false t s = Contains-append_left ks (k ∷ []) q
           (copy.only q (subst (λ b. IsSome (cond b (over (fact_at cmp facts k) (fact_at cmp old q)) (fact_at cmp old q))) t s))
 
+  -- of no key nothing is copied
   pub copy_none : (facts : List (K × V)) (ks : List K) → IsCopy cmp facts (take 0 ks) []
   copy_none facts ks = record {
     same = λ k listed. absurd (omega (arith, listed.1));
     only = λ k s. let f : false ≡ true = s in absurd (cc);
   }
 
+  -- one key more is copied
   pub copy_more : (facts : List (K × V)) (ks : List K) (i : ℕ) (k : K) (old new : List (K × V)) → i < length ks → k ≡ get_or ks i k
       → IsCopy cmp facts (take i ks) old → CopiesFact cmp facts k old new → IsCopy cmp facts (take (i + 1) ks) new
   copy_more facts ks i k old new within is copy step =
       let e : take (i + 1) ks ≡ take i ks ++ k ∷ [] = take_more ks i k within ∙ ap (λ x. take i ks ++ x ∷ []) (sym is) in
       subst (λ list. IsCopy cmp facts list new) (sym e) (copy_step facts [] (take i ks) k old new copy step)
 
+  -- copies that agree at one key more
   pub agree_more : (copies facts : List (K × V)) (ks : List K) (i : ℕ) (k : K) → i < length ks → k ≡ get_or ks i k → AgreesAt cmp copies facts (take i ks)
       → fact_at cmp copies k ≡ fact_at cmp facts k → AgreesAt cmp copies facts (take (i + 1) ks)
   agree_more copies facts ks i k within is agree here q listed =
@@ -66,10 +69,12 @@ module _ {K V : Type 0} (cmp : K → K → Ordering) (keys : OrdersKeys cmp) whe
       ⊎_elim (λ before. agree q before) (λ same. subst (λ x. fact_at cmp copies x ≡ fact_at cmp facts x) same here)
       (Contains-push_cases (take i ks) k q (subst (λ list. Contains list q) e listed))
 
+-- what stands at a place of a list is in it
 pub listed_at : {X : Type 0} (xs : List X) (i : ℕ) (x : X) → i < length xs → x ≡ get_or xs i x → Contains xs x
 listed_at xs i x within is = subst (λ y. Contains xs y) (sym is) (Contains-get_or xs i x within)
 
 module _ {K V : Type 0} (cmp : K → K → Ordering) (m : Rules K V) (law : IsLawful cmp m) where
+  -- a piece at a key without a fact is staged by itself
   pub stage_new : (facts risen risen' : List (K × V)) (k : K) (v w : V) → AllFit m (fact_at cmp facts) → IsTrue (m.fits k v)
       → None ≡ written cmp facts risen k → w ≡ v → ((q : K) → fact_at cmp risen' q ≡ cond (is_eq (cmp k q)) (Some w) (fact_at cmp risen q))
       → KeysRise cmp risen' → (done : List (K × V)) → PiecesFit m done → IsStaged cmp m facts done risen → IsStaged cmp m facts (done ++ (k, v) ∷ []) risen'
@@ -78,6 +83,7 @@ module _ {K V : Type 0} (cmp : K → K → Ordering) (m : Rules K V) (law : IsLa
       (subst (λ (o : Option V). IsRaised cmp m law k v o w) none (subst (λ x. IsRaised cmp m law k v None x) (sym is) (raised_new cmp m law k v fv)))
       (λ u e. let n : None ≡ Some u = none ∙ e in absurd (cc)) writes rise
 
+  -- a piece at a key with a fact is staged by their join
   pub stage_join : (facts risen risen' : List (K × V)) (k : K) (v u w : V) → AllFit m (fact_at cmp facts) → AllFit m (written cmp facts risen)
       → IsTrue (m.fits k v) → Some u ≡ written cmp facts risen k → m.at_most v u ≡ false → w ≡ m.join u v
       → ((q : K) → fact_at cmp risen' q ≡ cond (is_eq (cmp k q)) (Some w) (fact_at cmp risen q)) → KeysRise cmp risen' → (done : List (K × V))
@@ -88,6 +94,7 @@ module _ {K V : Type 0} (cmp : K → K → Ordering) (m : Rules K V) (law : IsLa
       (raised_join cmp m law k v u fv (fr k u (sym there)))))
       (λ x e. subst (λ y. m.at_most v y ≡ false) (same_some u x (there ∙ e)) more) writes rise
 
+  -- one piece more is staged
   pub stage_more : (facts pieces risen risen' : List (K × V)) (i : ℕ) (p : K × V) → i < length pieces → p ≡ get_or pieces i p → PiecesFit m pieces
       → ((done : List (K × V)) → PiecesFit m done → IsStaged cmp m facts done risen → IsStaged cmp m facts (done ++ (p.0, p.1) ∷ []) risen')
       → IsStaged cmp m facts (take i pieces) risen → IsStaged cmp m facts (take (i + 1) pieces) risen'
@@ -104,6 +111,7 @@ module _ {K V : Type 0} (cmp : K → K → Ordering) (m : Rules K V) (law : IsLa
       → fact_at cmp copies k ≡ fact_at cmp facts k
   both_ways facts copies k a b ff fc ea eb up down = sym ea ∙ ap Some (law.order.both k a b (fc k a (sym ea)) (ff k b (sym eb)) up down) ∙ eb
 
+  -- a copy that is the fact is at most it, and it is at most the copy
   pub not_at_most : (facts copies : List (K × V)) (k : K) (a b : V) → AllFit m (fact_at cmp facts) → Some a ≡ fact_at cmp copies k
       → Some b ≡ fact_at cmp facts k → fact_at cmp copies k ≡ fact_at cmp facts k → (m.at_most a b ≡ false) ⊎ (m.at_most b a ≡ false) → ⊥
   not_at_most facts copies k a b ff ea eb same some_fails =

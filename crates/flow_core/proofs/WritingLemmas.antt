@@ -38,6 +38,7 @@ pub record FromOne {X Y : Type 0} (f : X → List Y) (xs : List X) (y : Y) : Typ
   pub listed : Contains xs one
   pub inner : Contains (f one) y
 
+-- what is in the lists of a list is in that of one of it
 pub flat_from : {X Y : Type 0} (f : X → List Y) (xs : List X) (y : Y) → Contains (flat_map f xs) y → FromOne f xs y
 flat_from f [] y listed = absurd (omega (arith, listed.1))
 flat_from f (a ∷ xs) y listed =
@@ -50,21 +51,26 @@ flat_append f [] x = append-nil (f x)
 flat_append f (a ∷ xs) x = ap (λ list. f a ++ list) (flat_append f xs x) ∙ sym (append_assoc (f a) (flat_map f xs) (f x))
 
 module _ {K : Type 0} (cmp : K → K → Ordering) where
+  -- an index keeps its readers
   pub readers_same : (reads : K → List K) (old : List (K × List K)) → KeepsReaders cmp reads old old
   readers_same reads old = record { stays = λ q j h. h; read = λ h. h }
 
+  -- kept readers are kept from one index to the next
   pub readers_onward : (reads : K → List K) (a b c : List (K × List K)) → KeepsReaders cmp reads a b → KeepsReaders cmp reads b c → KeepsReaders cmp reads a c
   readers_onward reads a b c ab bc = record { stays = λ q j h. bc.stays q j (ab.stays q j h); read = λ h. bc.read (ab.read h) }
 
+  -- the same readers are kept
   pub readers_unchanged : (reads : K → List K) (old new : List (K × List K)) → SameReaders cmp old new → KeepsReaders cmp reads old new
   readers_unchanged reads old new same = record {
     stays = λ q j h. subst (λ list. Contains list j) (sym (same q)) h;
     read = λ h q j c. h q j (subst (λ list. Contains list j) (same q) c);
   }
 
+  -- a list keeps its marks
   pub marks_same : (old : List (K × Bool)) → KeysRise cmp old → KeepsMarks cmp old old
   marks_same old rise = record { stays = λ q b h. h; only = λ q h. h; rise = rise }
 
+  -- kept marks are kept from one list to the next
   pub marks_onward : (a b c : List (K × Bool)) → KeepsMarks cmp a b → KeepsMarks cmp b c → KeepsMarks cmp a c
   marks_onward a b c ab bc = record { stays = λ q x h. bc.stays q x (ab.stays q x h); only = λ q h. ab.only q (bc.only q h); rise = bc.rise }
 
@@ -72,6 +78,7 @@ module _ {K : Type 0} (cmp : K → K → Ordering) where
   marks_roomy old new k keeps = record { stays = keeps.stays; only = keeps.only; rise = keeps.rise }
 
   module _ (keys : OrdersKeys cmp) where
+    -- an index with one reader more keeps the others and has that one
     pub reader_added : (reads : K → List K) (old new : List (K × List K)) (r k : K) → Contains (reads k) r → AddsReader cmp old new r k
         → KeepsReaders cmp reads old new × Contains (readers_of cmp new r) k
     reader_added reads old new r k listed adds = (
@@ -102,6 +109,7 @@ module _ {K : Type 0} (cmp : K → K → Ordering) where
         read_cases h q j false t c = h q j (subst (λ b. Contains (cond b (readers_of cmp old r ++ k ∷ []) (readers_of cmp old q)) j) t c)
 
   module _ {V : Type 0} where
+    -- of no key nothing is marked
     pub marks_none : (facts : List (K × V)) (old : List (K × Bool)) (keys : List K) → KeysRise cmp old → MarksAll cmp facts (take 0 keys) old old
     marks_none facts old keys rise = record {
       stays = λ q h. h;
@@ -111,6 +119,7 @@ module _ {K : Type 0} (cmp : K → K → Ordering) where
       rise = rise;
     }
 
+    -- a key with a fact is among the keys
     pub key_listed : (keys : OrdersKeys cmp) (es : List (K × V)) (q : K) → IsSome (fact_at cmp es q) → Contains (keys_of es) q
     key_listed keys [] q s = let f : false ≡ true = s in absurd (cc)
     key_listed keys (e ∷ es) q s = listed_cases (is_eq (cmp q e.0)) refl (key_listed keys es q)
@@ -121,6 +130,7 @@ module _ {K : Type 0} (cmp : K → K → Ordering) where
         listed_cases false t rest = Contains-append_right (e.0 ∷ []) (keys_of es) q
             (rest (subst (λ (o : Option V). IsSome o) (lookup_tail (is_at (cmp q)) e es t) s))
 
+    -- a key among the keys has a fact
     pub listed_key : (keys : OrdersKeys cmp) (es : List (K × V)) (q : K) → Contains (keys_of es) q → IsSome (fact_at cmp es q)
     listed_key keys [] q listed = absurd (omega (arith, listed.1))
     listed_key keys (e ∷ es) q listed = key_cases (is_eq (cmp q e.0)) refl (listed_key keys es q)
@@ -132,6 +142,7 @@ module _ {K : Type 0} (cmp : K → K → Ordering) where
             absurd (cc)) rest (Contains-append_cases (e.0 ∷ []) (keys_of es) q listed))
 
     module _ (keys : OrdersKeys cmp) (facts : List (K × V)) (ks : List K) (old new : List (K × Bool)) (marks : MarksAll cmp facts ks old new) (k : K) where
+      -- one key more with a fact is marked
       pub marks_more : IsSome (fact_at cmp facts k) → MarksAll cmp facts (ks ++ k ∷ []) old (with_mark cmp new k true)
       marks_more there = record {
         stays = λ q h. mark_stays cmp keys.total new k q (marks.stays q h);
@@ -153,6 +164,7 @@ module _ {K : Type 0} (cmp : K → K → Ordering) where
           before_only q (inl was) = inl was
           before_only q (inr p) = inr (Contains-append_left ks (k ∷ []) q p.0, p.1)
 
+      -- a key without a fact is left as it is
       pub marks_absent : fact_at cmp facts k ≡ None → MarksAll cmp facts (ks ++ k ∷ []) old new
       marks_absent none = record {
         stays = marks.stays;
@@ -169,6 +181,7 @@ gather_more f xs i x old new within is before step =
     step ∙ ap (λ list. list ++ f x) before ∙ sym (flat_append f (take i xs) x) ∙ ap (flat_map f) (sym (next_of xs i x within is))
 
 module _ {K : Type 0} (cmp : K → K → Ordering) where
+  -- one list more has the reader
   pub lists_more : (items : List K) (i : ℕ) (r k : K) (old new : List (K × List K)) → i < length items → r ≡ get_or items i r
       → ((q : K) → Contains (take i items) q → Contains (readers_of cmp old q) k)
       → ((q j : K) → Contains (readers_of cmp old q) j → Contains (readers_of cmp new q) j) → Contains (readers_of cmp new r) k → (q : K)
@@ -178,6 +191,7 @@ module _ {K : Type 0} (cmp : K → K → Ordering) where
       (Contains-push_cases (take i items) r q (subst (λ list. Contains list q) (next_of items i r within is) listed))
 
   module _ {V : Type 0} where
+    -- one key more is ready in the later marks and readers
     pub ready_more : (reads : K → List K) (facts : List (K × V)) (ks : List K) (i : ℕ) (k : K) (marks marks' : List (K × Bool))
         (readers readers' : List (K × List K)) → i < length ks → k ≡ get_or ks i k
         → ((q : K) → Contains (take i ks) q → IsReady cmp reads facts marks readers q) → KeepsMarks cmp marks marks' → KeepsReaders cmp reads readers readers'
@@ -189,10 +203,12 @@ module _ {K : Type 0} (cmp : K → K → Ordering) where
         }) (λ same. subst (λ x. IsReady cmp reads facts marks' readers' x) same here)
         (Contains-push_cases (take i ks) k q (subst (λ list. Contains list q) (next_of ks i k within is) listed))
 
+    -- the keys up to the next are marked
     pub marks_next : (facts : List (K × V)) (ks : List K) (i : ℕ) (k : K) (old new : List (K × Bool)) → i < length ks → k ≡ get_or ks i k
         → MarksAll cmp facts (take i ks ++ k ∷ []) old new → MarksAll cmp facts (take (i + 1) ks) old new
     marks_next facts ks i k old new within is marks = subst (λ list. MarksAll cmp facts list old new) (sym (next_of ks i k within is)) marks
 
+    -- of no key nothing is taken back
     pub back_none : (facts risen : List (K × V)) (ks : List K) → TakesBack cmp facts risen (take 0 ks) facts
     back_none facts risen ks = record {
       gone = λ q listed. absurd (omega (arith, listed.1));
@@ -216,6 +232,7 @@ module _ {K : Type 0} (cmp : K → K → Ordering) where
       weaken q o (inl e) = inl e
       weaken q o (inr p) = inr (still_listed q p.0, p.1)
 
+      -- a key whose fact was there is taken back by the old fact
       pub back_kept : IsSome (fact_at cmp risen k) → TakesBack cmp facts risen (take (i + 1) ks) old
       back_kept s = record {
         gone = λ q listed none. ⊎_elim (λ was. back.gone q was none)
@@ -224,6 +241,7 @@ module _ {K : Type 0} (cmp : K → K → Ordering) where
         only = λ q. weaken q (fact_at cmp old q) (back.only q);
       }
 
+      -- a key that was new is taken out again
       pub back_removed : (new : List (K × V)) → fact_at cmp risen k ≡ None → ((q : K) → fact_at cmp new q ≡ cond (is_eq (cmp k q)) None (fact_at cmp old q))
           → TakesBack cmp facts risen (take (i + 1) ks) new
       back_removed new none removed = record {
@@ -249,6 +267,7 @@ module _ {K : Type 0} (cmp : K → K → Ordering) where
           only_cases q false t = subst (λ o. (o ≡ fact_at cmp facts q) ⊎ (Contains (take (i + 1) ks) q × (o ≡ None)))
               (sym (removed q ∙ ap (λ b. cond b None (fact_at cmp old q)) t)) (weaken q (fact_at cmp old q) (back.only q))
 
+    -- nothing is moved yet
     pub moving_same : (facts risen : List (K × V)) → KeysRise cmp facts → IsMoving cmp facts risen facts risen
     moving_same facts risen rise = record {
       kept = λ q s. (refl, refl);
@@ -257,6 +276,7 @@ module _ {K : Type 0} (cmp : K → K → Ordering) where
       rise = rise;
     }
 
+    -- what is moved goes on from one step to the next
     pub moving_onward : (f r f' r' f'' r'' : List (K × V)) → IsMoving cmp f r f' r' → IsMoving cmp f' r' f'' r'' → IsMoving cmp f r f'' r''
     moving_onward f r f' r' f'' r'' ab bc = record {
       kept = λ q s. let a = ab.kept q s in let b = bc.kept q (subst (λ (o : Option V). IsSome o) (sym a.0) s) in (b.0 ∙ a.0, b.1 ∙ a.1);
@@ -265,6 +285,7 @@ module _ {K : Type 0} (cmp : K → K → Ordering) where
       rise = bc.rise;
     }
 
+    -- one key more that still is among the risen has a fact
     pub there_more : (ks : List K) (i : ℕ) (k : K) (f r f' r' : List (K × V)) → i < length ks → k ≡ get_or ks i k
         → ((q : K) → Contains (take i ks) q → IsSome (fact_at cmp r q) → IsSome (fact_at cmp f q)) → IsMoving cmp f r f' r'
         → (IsSome (fact_at cmp r' k) → IsSome (fact_at cmp f' k)) → (q : K) → Contains (take (i + 1) ks) q → IsSome (fact_at cmp r' q)
@@ -296,6 +317,7 @@ module _ {K : Type 0} (cmp : K → K → Ordering) where
         by_risen q None e = by_first q (fact_at cmp r q) refl e
         by_risen q (Some x) e = let s = some_when (fact_at cmp r' q) x e in back.other q s ∙ (moving.left q s).0
 
+    -- one key more of the list is gone
     pub gone_more : (ks : List K) (i : ℕ) (k : K) (r r' : List (K × V)) → i < length ks → k ≡ get_or ks i k
         → ((q : K) → Contains (take i ks) q → fact_at cmp r q ≡ None) → ((q : K) → IsSome (fact_at cmp r' q) → IsSome (fact_at cmp r q))
         → fact_at cmp r' k ≡ None → (q : K) → Contains (take (i + 1) ks) q → fact_at cmp r' q ≡ None
@@ -312,6 +334,7 @@ module _ {K : Type 0} (cmp : K → K → Ordering) where
         → fact_at cmp f' q ≡ written cmp f r q
     all_written f r f' r' none whole q = ap (λ (o : Option V). over o (fact_at cmp f' q)) (sym (none q)) ∙ whole q
 
+    -- where each key of a list is gone, nothing is left of what has keys of the list alone
     pub none_left : (ks : List K) (r r' : List (K × V)) → ((q : K) → IsSome (fact_at cmp r q) → Contains ks q)
         → ((q : K) → IsSome (fact_at cmp r' q) → IsSome (fact_at cmp r q)) → ((q : K) → Contains ks q → fact_at cmp r' q ≡ None) → (q : K)
         → fact_at cmp r' q ≡ None

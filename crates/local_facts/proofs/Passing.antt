@@ -13,8 +13,10 @@ use Rattle.local_facts.specs.Restricted.{is_listed, beside, restricted, IsRestri
 use Rattle.local_facts.proofs.Closing.{due_from_least}
 use Rattle.local_facts.proofs.Room.{never_over}
 
-module _ {K V : Type 0} (cmp : K → K → Ordering) (m : Rules K V) (law : IsLawful cmp m) (starts : List (K × V)) (keep : List K) (fixed : List (K × V)) (sound : IsRestriction cmp m starts keep fixed) where
-  handed_on : (s : K → Option V) (test : K → V → Bool) → IsHandedOnLocally cmp m starts keep fixed s test → IsHandedOn (restricted cmp m starts keep fixed) s test
+module _ {K V : Type 0} (cmp : K → K → Ordering) (m : Rules K V) (law : IsLawful cmp m) (starts : List (K × V)) (keep : List K)
+    (fixed : List (K × V)) (sound : IsRestriction cmp m starts keep fixed) where
+  handed_on : (s : K → Option V) (test : K → V → Bool) → IsHandedOnLocally cmp m starts keep fixed s test
+      → IsHandedOn (restricted cmp m starts keep fixed) s test
   handed_on s test on = record {
     starts = on.starts;
     greater = λ k v w fv fw. on.greater k v w (fits_whole cmp m law starts keep fixed sound k v fv) (fits_whole cmp m law starts keep fixed sound k w fw);
@@ -24,11 +26,15 @@ module _ {K V : Type 0} (cmp : K → K → Ordering) (m : Rules K V) (law : IsLa
   }
 
   -- each fact of the least map passes a test that is handed on
-  pub least_passes : (s : K → Option V) (test : K → V → Bool) → IsLeastLocal cmp m starts keep fixed s → IsHandedOnLocally cmp m starts keep fixed s test → (k : K) (v : V) → s k ≡ Some v → IsTrue (test k v)
-  least_passes s test least on = graph_passes cmp (restricted cmp m starts keep fixed) (restricted_lawful cmp m law starts keep fixed sound) s test (due_from_least cmp m law starts keep fixed sound s least) (handed_on s test on)
+  pub least_passes : (s : K → Option V) (test : K → V → Bool) → IsLeastLocal cmp m starts keep fixed s
+      → IsHandedOnLocally cmp m starts keep fixed s test → (k : K) (v : V) → s k ≡ Some v → IsTrue (test k v)
+  least_passes s test least on = graph_passes cmp (restricted cmp m starts keep fixed) (restricted_lawful cmp m law starts keep fixed sound) s test
+      (due_from_least cmp m law starts keep fixed sound s least) (handed_on s test on)
 
   -- where the limit covers the kept keys, only want of memory refuses
-  pub want_alone : (limit : ℕ) → length keep ≤ limit → (refusal : GrowRefusal) → IsTooBig cmp (restricted cmp m starts keep fixed) limit refusal → refusal ≡ Want
+  pub want_alone : (limit : ℕ) → length keep ≤ limit → (refusal : GrowRefusal) → IsTooBig cmp (restricted cmp m starts keep fixed) limit refusal
+      → refusal ≡ Want
   want_alone limit room (Nodes count) (one_more, over) =
-      absurd (never_over cmp (restricted cmp m starts keep fixed) (restricted_lawful cmp m law starts keep fixed sound) keep (λ k v fits. fits_kept cmp m law starts keep fixed sound k v fits) limit over room)
+      absurd (never_over cmp (restricted cmp m starts keep fixed) (restricted_lawful cmp m law starts keep fixed sound) keep
+      (λ k v fits. fits_kept cmp m law starts keep fixed sound k v fits) limit over room)
   want_alone limit room Want too_big = refl

@@ -39,6 +39,7 @@ module _ (f : ℕ → ℕ) (n m : ℕ) (into : Into f (suc n) (suc m)) (one : On
       one_cases false e true d same = let clash = one n j (omega arith) (omega (arith, b)) same in absurd (omega (arith, clash, b))
       one_cases false e false d same = one i j (omega (arith, a)) (omega (arith, b)) (greatest i (omega (arith, a)) e ∙ sym (greatest j (omega (arith, b)) d))
 
+-- numbers below n that go one to one into those below m are no more than m
 pub pigeonhole : (n m : ℕ) (f : ℕ → ℕ) → Into f n m → OneToOne f n → n ≤ m
 pigeonhole zero m f into one = omega arith
 pigeonhole (suc n) zero f into one = let h = into n (omega arith) in absurd (omega (arith, h))

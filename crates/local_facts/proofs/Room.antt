@@ -1,5 +1,6 @@
 -- Where facts stand at listed keys alone, some closed state has no more keys than are listed.
-use Rattle.std.proofs.Common.{◌≡◌, ℕ, ◌+◌, ◌-◌, ◌<◌, ◌≤◌, Bool, true, false, ◌||◌, cond, List, [], ◌∷◌, length, get_or, Option, Some, None, Ordering, IsSome, IsTrue, Contains, sum_by, count_by, refl, sym, ap, ◌∙◌, subst, arith, zero, suc, ⊎_elim}
+use Rattle.std.proofs.Common.{◌≡◌, ℕ, ◌+◌, ◌-◌, ◌<◌, ◌≤◌, Bool, true, false, ◌||◌, cond, List, [], ◌∷◌, length, get_or, Option, Some, None, Ordering}
+use Rattle.std.proofs.Common.{IsSome, IsTrue, Contains, sum_by, count_by, refl, sym, ap, ◌∙◌, subst, arith, zero, suc, ⊎_elim}
 use Rattle.std.specs.List.{All}
 use Rattle.std.specs.Map.{keys_of}
 use Rattle.std.specs.BTreeMap.{is_at, insert_entry}
@@ -44,7 +45,8 @@ module _ {K : Type 0} (cmp : K → K → Ordering) (order : OrdersKeys cmp) wher
   place_is [] k d h = absurd (cc)
   place_is (q ∷ qs) k d h = is_cases (place_is qs k d) (is_eq (cmp q k)) refl
     where
-      is_cases : (is_listed cmp qs k ≡ true → get_or qs (place qs k) d ≡ k) → (b : Bool) → is_eq (cmp q k) ≡ b → get_or (q ∷ qs) (cond b 0 (suc (place qs k))) d ≡ k
+      is_cases : (is_listed cmp qs k ≡ true → get_or qs (place qs k) d ≡ k) → (b : Bool) → is_eq (cmp q k) ≡ b
+          → get_or (q ∷ qs) (cond b 0 (suc (place qs k))) d ≡ k
       is_cases later true e = same_key cmp order q k e
       is_cases later false e = later (sym (ap (λ c. c || is_listed cmp qs k) e) ∙ h)
 
@@ -71,7 +73,8 @@ module _ {K : Type 0} (cmp : K → K → Ordering) (order : OrdersKeys cmp) wher
           (λ (high : j ≤ i). ⊎_elim (λ (low : j < i). absurd (apart j i low a (sym (same i j a b e)))) (λ (up : i ≤ j). omega (arith, high, up)) (cases_lt j i))
           (cases_lt i j)
 
-module _ {K V : Type 0} (cmp : K → K → Ordering) (r : Rules K V) (law : IsLawful cmp r) (keep : List K) (inside : (k : K) (v : V) → IsTrue (r.fits k v) → is_listed cmp keep k ≡ true) where
+module _ {K V : Type 0} (cmp : K → K → Ordering) (r : Rules K V) (law : IsLawful cmp r) (keep : List K)
+    (inside : (k : K) (v : V) → IsTrue (r.fits k v) → is_listed cmp keep k ≡ true) where
   -- entries in the keys' order, which fit and whose keys are listed
   record IsStaged (t : List (K × V)) : Type 0 where
     pub rise : KeysRise cmp t
@@ -80,7 +83,8 @@ module _ {K V : Type 0} (cmp : K → K → Ordering) (r : Rules K V) (law : IsLa
 
   few : (t : List (K × V)) → IsStaged t → length t ≤ length keep
   few [] staged = omega arith
-  few (e ∷ es) staged = let n = few_keys cmp law.keys keep e.0 (keys_of (e ∷ es)) staged.rise staged.kept in let l = length-keys_of (e ∷ es) in omega (arith, n, l)
+  few (e ∷ es) staged = let n = few_keys cmp law.keys keep e.0 (keys_of (e ∷ es)) staged.rise staged.kept in let l =
+      length-keys_of (e ∷ es) in omega (arith, n, l)
 
   -- how far the facts' ranks are below the limit
   abbrev headroom : List (K × V) → ℕ
@@ -118,7 +122,8 @@ module _ {K V : Type 0} (cmp : K → K → Ordering) (r : Rules K V) (law : IsLa
       omega (arith, s, x, a, b)
 
   rank_rises : (k : K) (v w : V) → IsTrue (r.fits k v) → IsTrue (r.fits k w) → r.at_most v w ≡ false → r.rank w < r.rank (r.join w v)
-  rank_rises k v w fv fw not_below = law.limits.rises k w (r.join w v) fw (law.fit.join k w v fw fv) (law.least.first k w v fw fv) (back_cases (r.at_most (r.join w v) w) refl)
+  rank_rises k v w fv fw not_below = law.limits.rises k w (r.join w v) fw (law.fit.join k w v fw fv) (law.least.first k w v fw fv)
+      (back_cases (r.at_most (r.join w v) w) refl)
     where
       back_cases : (b : Bool) → r.at_most (r.join w v) w ≡ b → r.at_most (r.join w v) w ≡ false
       back_cases true e =
@@ -126,18 +131,21 @@ module _ {K V : Type 0} (cmp : K → K → Ordering) (r : Rules K V) (law : IsLa
           absurd (cc)
       back_cases false e = e
 
-  less_raised : (t : List (K × V)) (k : K) (v w : V) → IsStaged t → IsTrue (r.fits k v) → fact_at cmp t k ≡ Some w → r.at_most v w ≡ false → headroom (insert_entry cmp t k (r.join w v)) < headroom t
+  less_raised : (t : List (K × V)) (k : K) (v w : V) → IsStaged t → IsTrue (r.fits k v) → fact_at cmp t k ≡ Some w → r.at_most v w ≡ false
+      → headroom (insert_entry cmp t k (r.join w v)) < headroom t
   less_raised t k v w staged fv found not_below =
       let fw = staged.fit k w found in
       let s = sum_insert cmp law.keys (λ (e : K × V). r.top - r.rank e.1) t k (r.join w v) staged.rise in
-      let x : weight_at (λ (e : K × V). r.top - r.rank e.1) k (fact_at cmp t k) ≡ r.top - r.rank w = ap (weight_at (λ (e : K × V). r.top - r.rank e.1) k) found in
+      let x : weight_at (λ (e : K × V). r.top - r.rank e.1) k (fact_at cmp t k) ≡ r.top - r.rank w =
+      ap (weight_at (λ (e : K × V). r.top - r.rank e.1) k) found in
       let up = rank_rises k v w fv fw not_below in
       let top = law.limits.limit k (r.join w v) (law.fit.join k w v fw fv) in
       omega (arith, s, x, up, top)
 
   module _ (limit : ℕ) (over : IsOver cmp r limit) (room : length keep ≤ limit) where
     -- entries that no piece could raise are closed, and within the limit
-    over_none : (t : List (K × V)) → IsStaged t → ((k : K) (v : V) → IsTrue (r.fits k v) → fact_at cmp t k ≡ None → ⊥) → ((k : K) (v w : V) → IsTrue (r.fits k v) → fact_at cmp t k ≡ Some w → r.at_most v w ≡ false → ⊥) → ⊥
+    over_none : (t : List (K × V)) → IsStaged t → ((k : K) (v : V) → IsTrue (r.fits k v) → fact_at cmp t k ≡ None → ⊥)
+        → ((k : K) (v w : V) → IsTrue (r.fits k v) → fact_at cmp t k ≡ Some w → r.at_most v w ≡ false → ⊥) → ⊥
     over_none t staged grown raised =
         let passes : limit < counted_keys r t = over t staged.rise closed in
         let n = few t staged in
@@ -170,7 +178,8 @@ module _ {K V : Type 0} (cmp : K → K → Ordering) (r : Rules K V) (law : IsLa
         (λ k v w fv found not_below.
         let e = same_raised t k (r.join w v) w staged found in
         let h = less_raised t k v w staged fv found not_below in
-        none_raised n later m (insert_entry cmp t k (r.join w v)) (staged_put t k (r.join w v) staged (law.fit.join k w v (staged.fit k w found) fv)) (omega (arith, e, short)) (omega (arith, h, low)))
+        none_raised n later m (insert_entry cmp t k (r.join w v)) (staged_put t k (r.join w v) staged (law.fit.join k w v (staged.fit k w found) fv))
+        (omega (arith, e, short)) (omega (arith, h, low)))
 
     none_within : (n : ℕ) → NoneWithin n
     none_within zero t staged short = let f = few t staged in absurd (omega (arith, f, short))
@@ -179,4 +188,5 @@ module _ {K V : Type 0} (cmp : K → K → Ordering) (r : Rules K V) (law : IsLa
     -- so it isn't so that every closed state passes a limit that covers the listed keys
     pub never_over : ⊥
     unfolding IsStrictlySortedBy
-    never_over = none_within (suc (length keep)) [] (record { rise = tt; fit = λ k v found. absurd (cc); kept = All-nil (λ k. is_listed cmp keep k ≡ true) }) (omega arith)
+    never_over = none_within (suc (length keep)) []
+        (record { rise = tt; fit = λ k v found. absurd (cc); kept = All-nil (λ k. is_listed cmp keep k ≡ true) }) (omega arith)

@@ -1,5 +1,6 @@
 -- What a binary search finds among rising keys, and what a loop has copied.
-use Rattle.std.proofs.Common.{◌≡◌, ℕ, ◌+◌, ◌<◌, ◌≤◌, Bool, true, false, ◌||◌, cond, List, length, get_or, take, Option, Some, None, Result, Ok, Err, Ordering, is_ok, IsTrue, Contains, refl, sym, ap, ◌∙◌, subst, arith, ⊎_elim}
+use Rattle.std.proofs.Common.{◌≡◌, ℕ, ◌+◌, ◌<◌, ◌≤◌, Bool, true, false, ◌||◌, cond, List, length, get_or, take, Option, Some, None, Result, Ok, Err}
+use Rattle.std.proofs.Common.{Ordering, is_ok, IsTrue, Contains, refl, sym, ap, ◌∙◌, subst, arith, ⊎_elim}
 use Rattle.std.specs.List.{All}
 use Rattle.std.specs.List.Sorted.{IsStrictlySortedBy, IsSortedBy, IsSearchInRange, IsBinarySearchResult, IsPartitionPoint}
 use Rattle.std.specs.Cmp.{IsTotalOrder}
@@ -32,7 +33,8 @@ module _ {K : Type 0} (cmp : K → K → Ordering) (total : IsTotalOrder cmp) (k
       sides = parted (searchable_from_sorted total (λ (x : K). x) keep k sorted)
 
       none : All (λ q. is_eq (cmp q k) ≡ false) keep
-      none j d below = ⊎_elim (λ (before : j < i). ap is_eq (sides.0 j d (omega arith) before)) (λ (after : i ≤ j). ap is_eq (sides.1 j d after below)) (cases_lt j i)
+      none j d below = ⊎_elim (λ (before : j < i). ap is_eq (sides.0 j d (omega arith) before))
+          (λ (after : i ≤ j). ap is_eq (sides.1 j d after below)) (cases_lt j i)
 
 equal_from_is_eq : (o : Ordering) → is_eq o ≡ true → o ≡ Equal
 equal_from_is_eq Less e = absurd (cc)
@@ -46,7 +48,9 @@ module _ {K V : Type 0} (cmp : K → K → Ordering) (order : OrdersKeys cmp) (k
   found_again (Some v) p b e = refl
 
   -- one more key is copied
-  pub copy_more : (keys : List K) (i : ℕ) (k : K) (old new : List (K × V)) → i < length keys → k ≡ get_or keys i k → IsCopyBeside cmp keep fixed facts (take i keys) old → CopiesBeside cmp keep fixed facts k old new → IsCopyBeside cmp keep fixed facts (take (i + 1) keys) new
+  pub copy_more : (keys : List K) (i : ℕ) (k : K) (old new : List (K × V)) → i < length keys → k ≡ get_or keys i k
+      → IsCopyBeside cmp keep fixed facts (take i keys) old → CopiesBeside cmp keep fixed facts k old new
+      → IsCopyBeside cmp keep fixed facts (take (i + 1) keys) new
   copy_more keys i k old new within is copied step q = more_cases (is_eq (cmp k q)) refl
     where
       or_true : (a : Bool) → (a || true) ≡ true
@@ -63,7 +67,8 @@ module _ {K V : Type 0} (cmp : K → K → Ordering) (order : OrdersKeys cmp) (k
           ∙ ap (λ x. is_listed cmp (take i keys) q || is_eq (cmp x q)) (sym is)
           ∙ ap (λ t. is_listed cmp (take i keys) q || t) e
 
-      more_cases : (b : Bool) → is_eq (cmp k q) ≡ b → fact_at cmp new q ≡ cond (is_listed cmp (take (i + 1) keys) q) (beside cmp keep fixed (fact_at cmp facts) q) None
+      more_cases : (b : Bool) → is_eq (cmp k q) ≡ b
+          → fact_at cmp new q ≡ cond (is_listed cmp (take (i + 1) keys) q) (beside cmp keep fixed (fact_at cmp facts) q) None
       more_cases true e =
           step q
           ∙ ap (λ b. cond b (found_or (beside cmp keep fixed (fact_at cmp facts) k) (fact_at cmp old q)) (fact_at cmp old q)) e
@@ -76,7 +81,10 @@ module _ {K V : Type 0} (cmp : K → K → Ordering) (order : OrdersKeys cmp) (k
           ∙ copied q
           ∙ sym (ap (λ b. cond b (beside cmp keep fixed (fact_at cmp facts) q) None) (listed false e ∙ or_false (is_listed cmp (take i keys) q)))
 
-module _ {K V : Type 0} (cmp : K → K → Ordering) (m : Rules K V) (law : IsLawful cmp m) (starts : List (K × V)) (keep : List K) (fixed : List (K × V)) (sound : IsRestriction cmp m starts keep fixed) (facts : List (K × V)) (fit : AllFit (restricted cmp m starts keep fixed) (fact_at cmp facts)) (keys : List K) (copies : List (K × V)) (copied : IsCopyBeside cmp keep fixed facts keys copies) where
+module _ {K V : Type 0} (cmp : K → K → Ordering) (m : Rules K V) (law : IsLawful cmp m) (starts : List (K × V)) (keep : List K)
+    (fixed : List (K × V)) (sound : IsRestriction cmp m starts keep fixed) (facts : List (K × V))
+    (fit : AllFit (restricted cmp m starts keep fixed) (fact_at cmp facts)) (keys : List K) (copies : List (K × V))
+    (copied : IsCopyBeside cmp keep fixed facts keys copies) where
   pub copies_fit : AllFit m (fact_at cmp copies)
   copies_fit q v found = fit_cases (is_listed cmp keys q) (sym (copied q) ∙ found)
     where
@@ -89,7 +97,9 @@ module _ {K V : Type 0} (cmp : K → K → Ordering) (m : Rules K V) (law : IsLa
 
   -- over the copies of what it reads a key gives what it gives over the state with the fixed facts beside it
   pub same_gives : (k : K) → keys ≡ m.reads k → m.gives k (fact_at cmp copies) ≡ m.gives k (beside cmp keep fixed (fact_at cmp facts))
-  same_gives k read = law.looks.looks (fact_at cmp copies) (beside cmp keep fixed (fact_at cmp facts)) copies_fit (beside_fits cmp m law starts keep fixed sound (fact_at cmp facts) fit) k same
+  same_gives k read = law.looks.looks (fact_at cmp copies) (beside cmp keep fixed (fact_at cmp facts)) copies_fit
+      (beside_fits cmp m law starts keep fixed sound (fact_at cmp facts) fit) k same
     where
       same : (j : K) → Contains (m.reads k) j → fact_at cmp copies j ≡ beside cmp keep fixed (fact_at cmp facts) j
-      same j reads = copied j ∙ ap (λ b. cond b (beside cmp keep fixed (fact_at cmp facts) j) None) (contained_listed j keys (subst (λ list. Contains list j) (sym read) reads))
+      same j reads = copied j ∙ ap (λ b. cond b (beside cmp keep fixed (fact_at cmp facts) j) None)
+          (contained_listed j keys (subst (λ list. Contains list j) (sym read) reads))

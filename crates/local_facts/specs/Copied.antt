@@ -13,7 +13,8 @@ found_or (Some v) old = Some v
 module _ {K V : Type 0} (cmp : K → K → Ordering) (keep : List K) (fixed facts : List (K × V)) where
   -- the fact at the key, if there is one, is copied
   abbrev pub CopiesBeside : K → List (K × V) → List (K × V) → Type 0
-  CopiesBeside k old new = (q : K) → fact_at cmp new q ≡ (if is_eq (cmp k q) then found_or (beside cmp keep fixed (fact_at cmp facts) k) (fact_at cmp old q) else fact_at cmp old q)
+  CopiesBeside k old new = (q : K) → fact_at cmp new q ≡
+      (if is_eq (cmp k q) then found_or (beside cmp keep fixed (fact_at cmp facts) k) (fact_at cmp old q) else fact_at cmp old q)
 
   -- exactly the facts at these keys
   abbrev pub IsCopyBeside : List K → List (K × V) → Type 0

@@ -1,5 +1,6 @@
 -- A restricted system has the laws that its system has.
-use Rattle.std.proofs.Common.{◌≡◌, ◌≤◌, Bool, true, false, ◌&&◌, cond, List, [], ◌∷◌, length, Option, Some, Ordering, IsTrue, Contains, refl, sym, ap, ◌∙◌, arith, zero, suc}
+use Rattle.std.proofs.Common.{◌≡◌, ◌≤◌, Bool, true, false, ◌&&◌, cond, List, [], ◌∷◌, length, Option, Some, Ordering, IsTrue, Contains, refl, sym, ap}
+use Rattle.std.proofs.Common.{◌∙◌, arith, zero, suc}
 use Rattle.std.specs.List.{filter}
 use Rattle.std.specs.List.Sorted.{IsStrictlySortedBy-prop}
 use Rattle.std.proofs.Props.{props}
@@ -9,7 +10,8 @@ use Rattle.flow_system.specs.State.{AllFit, ContainsPiece, IsBelow, IsCovered}
 use Rattle.flow_system.specs.Laws.{IsLawful}
 use Rattle.local_facts.specs.Restricted.{is_listed, beside, kept_pieces, restricted, IsRestriction}
 
-pub IsRestriction-prop : {K V : Type 0} (cmp : K → K → Ordering) (m : Rules K V) (starts : List (K × V)) (keep : List K) (fixed : List (K × V)) → IsProp (IsRestriction cmp m starts keep fixed)
+pub IsRestriction-prop : {K V : Type 0} (cmp : K → K → Ordering) (m : Rules K V) (starts : List (K × V)) (keep : List K) (fixed : List (K × V))
+    → IsProp (IsRestriction cmp m starts keep fixed)
 IsRestriction-prop cmp m starts keep fixed = hlevel (props, IsStrictlySortedBy-prop)
 
 both_true : (b c : Bool) → (b && c) ≡ true → (b ≡ true) × (c ≡ true)
@@ -26,7 +28,8 @@ module _ {X : Type 0} (p : X → Bool) where
   kept_listed [] x h = absurd (omega (arith, h.1))
   kept_listed (y ∷ ys) x h = kept_cases (λ r. kept_listed ys x r) (p y) refl h
     where
-      kept_cases : (Contains (filter p ys) x → Contains ys x × (p x ≡ true)) → (b : Bool) → p y ≡ b → Contains (cond b (y ∷ filter p ys) (filter p ys)) x → Contains (y ∷ ys) x × (p x ≡ true)
+      kept_cases : (Contains (filter p ys) x → Contains ys x × (p x ≡ true)) → (b : Bool) → p y ≡ b
+          → Contains (cond b (y ∷ filter p ys) (filter p ys)) x → Contains (y ∷ ys) x × (p x ≡ true)
       kept_cases rest true t (zero, below, is) = ((zero, omega arith, is), ap p (sym is) ∙ t)
       kept_cases rest true t (suc i, below, is) =
           let r = rest (i, omega arith, is) in
@@ -56,7 +59,8 @@ module _ {X : Type 0} (p : X → Bool) where
       short_cases true h = omega arith
       short_cases false h = omega arith
 
-module _ {K V : Type 0} (cmp : K → K → Ordering) (m : Rules K V) (law : IsLawful cmp m) (starts : List (K × V)) (keep : List K) (fixed : List (K × V)) (sound : IsRestriction cmp m starts keep fixed) where
+module _ {K V : Type 0} (cmp : K → K → Ordering) (m : Rules K V) (law : IsLawful cmp m) (starts : List (K × V)) (keep : List K)
+    (fixed : List (K × V)) (sound : IsRestriction cmp m starts keep fixed) where
   -- what fits a kept key fits it in the whole system
   pub fits_whole : (k : K) (v : V) → IsTrue ((restricted cmp m starts keep fixed).fits k v) → IsTrue (m.fits k v)
   fits_whole k v h = (both_true (is_listed cmp keep k) (m.fits k v) h).1
@@ -87,7 +91,8 @@ module _ {K V : Type 0} (cmp : K → K → Ordering) (m : Rules K V) (law : IsLa
   beside_same s t k e = ap (λ x. cond (is_listed cmp keep k) x (fact_at cmp fixed k)) e
 
   -- the pieces of kept keys cover those of kept keys
-  pub covered_kept : (pieces others : List (K × V)) → IsCovered m pieces others → IsCovered (restricted cmp m starts keep fixed) (kept_pieces cmp keep pieces) (kept_pieces cmp keep others)
+  pub covered_kept : (pieces others : List (K × V)) → IsCovered m pieces others
+      → IsCovered (restricted cmp m starts keep fixed) (kept_pieces cmp keep pieces) (kept_pieces cmp keep others)
   covered_kept pieces others covered k v listed =
       let r = kept_listed (λ (piece : K × V). is_listed cmp keep piece.0) pieces (k, v) listed in
       let c = covered k v r.0 in
@@ -102,7 +107,8 @@ module _ {K V : Type 0} (cmp : K → K → Ordering) (m : Rules K V) (law : IsLa
       gives = λ j s fs k v listed.
           let r = kept_listed (λ (piece : K × V). is_listed cmp keep piece.0) (m.gives j (beside cmp keep fixed s)) (k, v) listed in
           true_both (is_listed cmp keep k) (m.fits k v) r.1 (law.fit.gives j (beside cmp keep fixed s) (beside_fits s fs) k v r.0);
-      join = λ k a b fa fb. true_both (is_listed cmp keep k) (m.fits k (m.join a b)) (fits_kept k a fa) (law.fit.join k a b (fits_whole k a fa) (fits_whole k b fb));
+      join = λ k a b fa fb. true_both (is_listed cmp keep k) (m.fits k (m.join a b)) (fits_kept k a fa)
+          (law.fit.join k a b (fits_whole k a fa) (fits_whole k b fb));
     };
     order = record {
       same = λ k a fa. law.order.same k a (fits_whole k a fa);
@@ -114,16 +120,24 @@ module _ {K V : Type 0} (cmp : K → K → Ordering) (m : Rules K V) (law : IsLa
       second = λ k a b fa fb. law.least.second k a b (fits_whole k a fa) (fits_whole k b fb);
       least = λ k a b c fa fb fc. law.least.least k a b c (fits_whole k a fa) (fits_whole k b fb) (fits_whole k c fc);
     };
-    monotone = λ s t fs ft below k. covered_kept (m.gives k (beside cmp keep fixed s)) (m.gives k (beside cmp keep fixed t)) (law.monotone (beside cmp keep fixed s) (beside cmp keep fixed t) (beside_fits s fs) (beside_fits t ft) (beside_below s t below) k);
+    monotone = λ s t fs ft below k. covered_kept (m.gives k (beside cmp keep fixed s)) (m.gives k (beside cmp keep fixed t))
+        (law.monotone (beside cmp keep fixed s) (beside cmp keep fixed t) (beside_fits s fs) (beside_fits t ft) (beside_below s t below) k);
     looks = record {
       itself = law.looks.itself;
-      looks = λ s t fs ft k same. ap (λ pieces. kept_pieces cmp keep pieces) (law.looks.looks (beside cmp keep fixed s) (beside cmp keep fixed t) (beside_fits s fs) (beside_fits t ft) k (λ j read. beside_same s t j (same j read)));
+      looks = λ s t fs ft k same. ap (λ pieces. kept_pieces cmp keep pieces)
+          (law.looks.looks (beside cmp keep fixed s) (beside cmp keep fixed t) (beside_fits s fs) (beside_fits t ft) k
+          (λ j read. beside_same s t j (same j read)));
     };
     limits = record {
       rises = λ k a b fa fb. law.limits.rises k a b (fits_whole k a fa) (fits_whole k b fb);
       limit = λ k a fa. law.limits.limit k a (fits_whole k a fa);
       reads = law.limits.reads;
-      gives = λ k s fs. omega (arith, filter_short (λ (piece : K × V). is_listed cmp keep piece.0) (m.gives k (beside cmp keep fixed s)), law.limits.gives k (beside cmp keep fixed s) (beside_fits s fs));
+      gives = λ k s fs. omega (
+        arith,
+        filter_short (λ (piece : K × V). is_listed cmp keep piece.0)
+            (m.gives k (beside cmp keep fixed s)),
+        law.limits.gives k (beside cmp keep fixed s) (beside_fits s fs),
+      );
       counted = λ k s h. ap (λ pieces. kept_pieces cmp keep pieces) (law.limits.counted k (beside cmp keep fixed s) h);
     };
   }

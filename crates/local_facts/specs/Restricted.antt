@@ -53,7 +53,8 @@ module _ {K V : Type 0} (cmp : K → K → Ordering) (m : Rules K V) (first : Li
     pub kept : (k : K) → IsSome (s k) → IsTrue (is_listed cmp keep k)
     pub fit : AllFit m s
     pub starts : ContainsAll m s first
-    pub given : (k : K) → IsSome (s k) → (j : K) (v : V) → Contains (m.gives k (beside cmp keep fixed s)) (j, v) → IsTrue (is_listed cmp keep j) → ContainsPiece m s j v
+    pub given : (k : K) → IsSome (s k) → (j : K) (v : V) → Contains (m.gives k (beside cmp keep fixed s)) (j, v) → IsTrue (is_listed cmp keep j)
+        → ContainsPiece m s j v
 
   -- the least such map
   pub record IsLeastLocal (s : K → Option V) : Type 0 where

@@ -88,6 +88,7 @@ module _ {S : Type 0} where
     pub last : carried_after taken act ≡ (n, value) ∷ others
     pub alike : (k : ℕ) → times k (numbers (carried_after taken act)) ≡ times k (numbers taken)
 
+  -- a part that was taken is reached again
   pub reached : (n : ℕ) (homes : List (Option S)) (taken : List (ℕ × S)) → AreOut homes taken → 1 ≤ times n (numbers taken) → Reached n homes taken
   reached n homes taken are stands = let b = gives_back n homes taken are stands in let is_out : get_elem? homes n ≡ some none = are.out n stands in record {
     act = chain b.act (takes n b.value);

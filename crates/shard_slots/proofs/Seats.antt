@@ -20,7 +20,8 @@ pub bare_seat : {S : Type 0} (of : ShardsId) (me : Me S Hold) → IsSeat of me �
 bare_seat of me seat bare = none_numbered me.1 (none_stands (numbers me.1) (λ n. seat.slots n ∙ ap (times n) bare))
 
 module _ {T : Type 0} (of : ShardsId) (n : ℕ) where
-  pub took_seat : (me : Me (Option T) Hold) (x : Option T) → IsSeat of me → n < count_of of → IsSeat {S = Option T} of (hold me.0.weight (n ∷ me.0.held), (n, x) ∷ me.1)
+  pub took_seat : (me : Me (Option T) Hold) (x : Option T) → IsSeat of me → n < count_of of
+      → IsSeat {S = Option T} of (hold me.0.weight (n ∷ me.0.held), (n, x) ∷ me.1)
   took_seat me x seat near = record {
     slots = λ k. omega (arith, seat.slots k);
     parts = λ k holds. dite (ℕ_discrete n k) (λ e. omega (arith, e, near)) (λ apart. seat.parts k (omega (arith, same_else n k apart, holds)));
@@ -56,5 +57,6 @@ pub puts_back : {T : Type 0} (n : ℕ) (x : Option T) (load exchange swap : Me (
 puts_back n x load exchange swap wrote put = put ∙ ap (λ m. (hold m.0.weight (without n m.0.held), rest m.1)) wrote
 
 -- neither the load nor the write changes what the seat holds
-pub held_stays : {S : Type 0} (before load exchange : Me S Hold) (taken : List (ℕ × S)) → exchange ≡ (load.0, taken) → load.0 ≡ before.0 → exchange.0.held ≡ before.0.held
+pub held_stays : {S : Type 0} (before load exchange : Me S Hold) (taken : List (ℕ × S)) → exchange ≡ (load.0, taken) → load.0 ≡ before.0
+    → exchange.0.held ≡ before.0.held
 held_stays before load exchange taken wrote stays = ap (λ m. m.0.held) wrote ∙ ap (λ (v : Hold). v.held) stays

@@ -43,6 +43,7 @@ pub record PartsHaveOneHolder (T : Type 0) : Type 0 where
   -- a seat that holds a part weighs something
   pub heavy : (t : Table T) (n id : ℕ) → IsKept t → (holder : IsHolder t n id) → 1 ≤ holder.seat.weight
   -- a seat that has all the weight finds each part that it doesn't hold
-  pub all : (t : Table T) (n id : ℕ) (seat : Hold) → IsKept t → get_elem? t.views id ≡ some seat → seat.weight ≡ 128 → n < length t.homes → Lacks seat.held n → slice_index t.words n ≡ 1
+  pub all : (t : Table T) (n id : ℕ) (seat : Hold) → IsKept t → get_elem? t.views id ≡ some seat → seat.weight ≡ 128 → n < length t.homes
+      → Lacks seat.held n → slice_index t.words n ≡ 1
   -- at the closing each part is in its slot
   pub closing : (t : Table T) (n id : ℕ) → IsKept t → IsClosing id t → n < length t.homes → IsIn t n

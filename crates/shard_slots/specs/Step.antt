@@ -26,7 +26,11 @@ module _ {T : Type 0} (id : ℕ) where
     pub there : get_elem? t.views other ≡ some joined
     pub apart : other ≢ id
     pub bare : joined.held ≡ []
-    pub after : u ≡ record { words = t.words; homes = t.homes; views = slice_set (slice_set t.views id (hold (seat.weight + joined.weight) seat.held)) other (hold 0 []) }
+    pub after : u ≡ record {
+      words = t.words;
+      homes = t.homes;
+      views = slice_set (slice_set t.views id (hold (seat.weight + joined.weight) seat.held)) other (hold 0 []);
+    }
 
   -- an exchange that finds a part and leaves its slot empty: the seat then holds the part
   pub record IsTake (n : ℕ) (t u : Table T) : Type 0 where
@@ -43,7 +47,11 @@ module _ {T : Type 0} (id : ℕ) where
     pub here : get_elem? t.views id ≡ some seat
     pub held : Holds seat.held n
     pub within : n < length t.homes
-    pub after : u ≡ record { words = slice_set t.words n 1; homes = slice_set t.homes n (some (Some part)); views = slice_set t.views id (hold seat.weight (without n seat.held)) }
+    pub after : u ≡ record {
+      words = slice_set t.words n 1;
+      homes = slice_set t.homes n (some (Some part));
+      views = slice_set t.views id (hold seat.weight (without n seat.held));
+    }
 
   -- the closing: the last seat has all the weight and holds nothing
   pub record IsClosing (t : Table T) : Type 0 where

@@ -1,0 +1,4 @@
+pub mod Holdings
+pub mod PieceLemmas
+pub mod PartSteps
+pub mod Sums

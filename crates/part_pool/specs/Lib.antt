@@ -1,0 +1,4 @@
+pub mod Holding
+pub mod Part
+pub mod Pieces
+pub mod Sum
