@@ -8,13 +8,16 @@ use Rattle.abs_state.specs.declared.flags.Flags.TheVariants.{Unknown, Cmp, Res}
 use Rattle.abs_state.specs.declared.flags.Right.{Right}
 use Rattle.abs_state.specs.declared.flags.Right.TheVariants.{Cell, Word}
 
+-- where one of two tests holds, the first or the second does
 pub or_cases : (a b : Bool) → (a || b) ≡ true → (a ≡ true) ⊎ (b ≡ true)
 or_cases true b e = inl refl
 or_cases false b e = inr e
 
+-- one of two tests holds where the first does
 pub or_first : (a b : Bool) → a ≡ true → (a || b) ≡ true
 or_first a b e = ap (λ (x : Bool). x || b) e
 
+-- one of two tests holds where the second does
 pub or_second : (a b : Bool) → b ≡ true → (a || b) ≡ true
 or_second true b e = refl
 or_second false b e = e
@@ -62,12 +65,15 @@ up_cases f g e =
       | inr none ↦ inr (unknown_exact g none)
     ]
 
+-- the same is at most itself
 pub up_same : (f g : Flags) → f ≡ g → flags_at_most f g ≡ true
 up_same f g e = subst (λ (x : Flags). flags_at_most f x ≡ true) e (or_first (flags_eq f f) (is_unknown f) (flags_same f))
 
+-- all flags are at most unknown ones
 pub up_unknown : (f g : Flags) → g ≡ Unknown → flags_at_most f g ≡ true
 up_unknown f g e = or_second (flags_eq f g) (is_unknown g) (ap is_unknown e)
 
+-- the order of flags goes on from one to the next
 pub up_onward : (f g h : Flags) → flags_at_most f g ≡ true → flags_at_most g h ≡ true → flags_at_most f h ≡ true
 up_onward f g h one two =
     elim (up_cases g h two) [
@@ -75,6 +81,7 @@ up_onward f g h one two =
       | inl same ↦ subst (λ (x : Flags). flags_at_most f x ≡ true) same one
     ]
 
+-- flags that are at most each other are the same
 pub up_both : (f g : Flags) → flags_at_most f g ≡ true → flags_at_most g f ≡ true → f ≡ g
 up_both f g one two =
     elim (up_cases f g one) [
@@ -94,6 +101,7 @@ joined_cases f g =
       | inr other ↦ inr (rw other refl)
     ]
 
+-- the first flags are at most the joined ones
 pub joined_first : (f g : Flags) → flags_at_most f (joined_flags f g) ≡ true
 joined_first f g =
     elim (joined_cases f g) [
@@ -101,6 +109,7 @@ joined_first f g =
       | inr none ↦ up_unknown f (joined_flags f g) none
     ]
 
+-- the second flags are at most the joined ones
 pub joined_second : (f g : Flags) → flags_at_most g (joined_flags f g) ≡ true
 joined_second f g =
     elim (joined_cases f g) [
@@ -108,6 +117,7 @@ joined_second f g =
       | inr none ↦ up_unknown g (joined_flags f g) none
     ]
 
+-- joined flags are at most what both are at most
 pub joined_least : (f g h : Flags) → flags_at_most f h ≡ true → flags_at_most g h ≡ true → flags_at_most (joined_flags f g) h ≡ true
 joined_least f g h one two =
     elim (up_cases f h one) [
@@ -127,6 +137,7 @@ joined_least f g h one two =
 without_cell : ℕ → Flags → Flags
 without_cell c f = if names f c then Unknown else f
 
+-- flags stay ordered where those that name a cell are forgotten
 pub forget_up : (f g : Flags) (c : ℕ) → flags_at_most f g ≡ true → flags_at_most (if names f c then Unknown else f) (if names g c then Unknown else g) ≡ true
 unfolding without_cell
 forget_up f g c up =

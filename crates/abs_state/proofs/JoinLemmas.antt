@@ -47,7 +47,8 @@ module _ (t : List ℕ) (vs us : List Value) (size : length vs ≡ 48) (other : 
       let b = and_parts (nat_lt c 48) (not (is_ret (cell_in us c))) right in
       let below : c < 48 = ltb-true c 48 a.0 in
       let at : cell_in (joined_cells t vs us) c ≡ join t (cell_in vs c) (cell_in us c) = joined-at t vs us c (size ∙ sym other) (omega arith) in
-      let ret : is_ret (cell_in (joined_cells t vs us) c) ≡ (is_ret (cell_in vs c) && is_ret (cell_in us c)) = ap is_ret at ∙ join_is_ret t (cell_in vs c) (cell_in us c) in
+      let ret : is_ret (cell_in (joined_cells t vs us) c) ≡ (is_ret (cell_in vs c) && is_ret (cell_in us c)) =
+      ap is_ret at ∙ join_is_ret t (cell_in vs c) (cell_in us c) in
       and_from (nat_lt c 48) (not (is_ret (cell_in (joined_cells t vs us) c))) a.0 (ap not ret ∙ none (is_ret (cell_in vs c)) (is_ret (cell_in us c)) a.1)
     where
       none : (x y : Bool) → not x ≡ true → not (x && y) ≡ true
@@ -77,17 +78,20 @@ join_stands t a b is left right =
       named = named (joined_cases a.flags b.flags);
     }
   where
-    named : ((a.flags ≡ b.flags) × (joined_flags a.flags b.flags ≡ a.flags)) ⊎ (joined_flags a.flags b.flags ≡ Unknown) → may_speak (joined_cells t a.cells b.cells) (joined_flags a.flags b.flags) ≡ true
+    named : ((a.flags ≡ b.flags) × (joined_flags a.flags b.flags ≡ a.flags)) ⊎ (joined_flags a.flags b.flags ≡ Unknown)
+        → may_speak (joined_cells t a.cells b.cells) (joined_flags a.flags b.flags) ≡ true
     named (inl e) =
         subst (λ (f : Flags). may_speak (joined_cells t a.cells b.cells) f ≡ true) (sym e.1)
         (speak_joined t a.cells b.cells left.size right.size a.flags left.named (subst (λ (f : Flags). may_speak b.cells f ≡ true) (sym e.0) right.named))
     named (inr e) = subst (λ (f : Flags). may_speak (joined_cells t a.cells b.cells) f ≡ true) (sym e) refl
 
 -- the join of states is one
-pub join_is_state : (t : List ℕ) (a b : State) → IsThresholds t → IsState a → IsState b → All (IsOver t) a.cells → All (IsOver t) b.cells → IsState (joined t a b)
+pub join_is_state : (t : List ℕ) (a b : State) → IsThresholds t → IsState a → IsState b → All (IsOver t) a.cells → All (IsOver t) b.cells
+    → IsState (joined t a b)
 join_is_state t a b is left right first second =
     stands_state t (joined t a b) (join_stands t a b is (state_stands t a left first) (state_stands t b right second))
 
+-- the join of two states is the least that is at least both, and its flags speak of no return address
 pub states_are_joined : StatesAreJoined
 states_are_joined = record { stands = both; first = first; second = second; least = least } where
   both : (t : List ℕ) (a b : State) → IsThresholds t → is_state_over t a ≡ true → is_state_over t b ≡ true → is_state_over t (joined t a b) ≡ true
@@ -109,7 +113,8 @@ states_are_joined = record { stands = both; first = first; second = second; leas
       (cells_second t a.cells b.cells is (x.size ∙ sym y.size) x.over y.over)
       (joined_second a.flags b.flags)
 
-  least : (t : List ℕ) (a b c : State) → IsThresholds t → is_state_over t a ≡ true → is_state_over t b ≡ true → is_state_over t c ≡ true → is_at_most a c ≡ true → is_at_most b c ≡ true → is_at_most (joined t a b) c ≡ true
+  least : (t : List ℕ) (a b c : State) → IsThresholds t → is_state_over t a ≡ true → is_state_over t b ≡ true → is_state_over t c ≡ true
+      → is_at_most a c ≡ true → is_at_most b c ≡ true → is_at_most (joined t a b) c ≡ true
   least t a b c is left right most one two =
       let p = and_parts (are_at_most a.cells c.cells) (flags_at_most a.flags c.flags) one in
       let q = and_parts (are_at_most b.cells c.cells) (flags_at_most b.flags c.flags) two in

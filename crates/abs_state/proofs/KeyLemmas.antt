@@ -44,7 +44,8 @@ nat_exact a b e =
       | inr ge ↦
           elim (cases_eq a b) [
             | inl eq ↦ eq
-            | inr ne ↦ absurd (let t : nat_lt a b ≡ false = grind (arith, nat_tests) in let u : (a == b) ≡ false = grind (arith, nat_tests) in let f : Greater ≡ Equal = sym (rw (t, u) refl) ∙ e in cc)
+            | inr ne ↦ absurd (let t : nat_lt a b ≡ false = grind (arith, nat_tests) in let u : (a == b) ≡ false =
+                grind (arith, nat_tests) in let f : Greater ≡ Equal = sym (rw (t, u) refl) ∙ e in cc)
           ]
     ]
 
@@ -112,5 +113,6 @@ exact (Gap s p w) (Edge r t) e = absurd (let f : Greater ≡ Equal = e in cc)
 exact (Gap s p w) (Call q d) e = absurd (let f : Greater ≡ Equal = e in cc)
 exact (Gap s p w) (Summary t) e = absurd (let f : Greater ≡ Equal = e in cc)
 
+-- keys have one order, which tells all of them apart
 pub keys_are_ordered : KeysAreOrdered
 keys_are_ordered = record { total = total; exact = exact }

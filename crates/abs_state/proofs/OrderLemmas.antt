@@ -1,5 +1,6 @@
 -- The order and the ranks of states, and what it is to stand where thresholds are.
-use Rattle.std.proofs.Common.{◌≡◌, ℕ, ◌+◌, ◌*◌, ◌<◌, ◌≤◌, ◌⊎◌, inl, inr, ◌&&◌, Bool, true, false, List, [], ◌∷◌, length, refl, sym, ap, subst, ◌∙◌, arith, eq-eqb}
+use Rattle.std.proofs.Common.{◌≡◌, ℕ, ◌+◌, ◌*◌, ◌<◌, ◌≤◌, ◌⊎◌, inl, inr, ◌&&◌, Bool, true, false, List, [], ◌∷◌, length, refl, sym, ap, subst, ◌∙◌}
+use Rattle.std.proofs.Common.{arith, eq-eqb}
 use Rattle.std.specs.Prelude.{◌==◌, if◌then◌else◌}
 use Rattle.std.specs.List.{All, list_all}
 use Rattle.std.proofs.lemmas.Bool.{and_parts, and_from, cases_Bool, eqb-true, both_ways}
@@ -25,6 +26,7 @@ pub record Stands (t : List ℕ) (s : State) : Type 0 where
   pub zero_cell : is_zero (cell_at s 0) ≡ true
   pub named : may_speak s.cells s.flags ≡ true
 
+-- a state that passes the test stands over the thresholds
 pub stands : (t : List ℕ) (s : State) → is_state_over t s ≡ true → Stands t s
 stands t s is =
     let a = and_parts (length s.cells == 48) (list_all (is_over t) s.cells && (is_zero (cell_at s 0) && may_speak s.cells s.flags)) is in
@@ -32,6 +34,7 @@ stands t s is =
     let c = and_parts (is_zero (cell_at s 0)) (may_speak s.cells s.flags) b.1 in
     record { size = eqb-true (length s.cells) 48 a.0; over = b.0; zero_cell = c.0; named = c.1 }
 
+-- a state that stands over thresholds passes the test
 pub from_stands : (t : List ℕ) (s : State) → Stands t s → is_state_over t s ≡ true
 from_stands t s is =
     and_from (length s.cells == 48) (list_all (is_over t) s.cells && (is_zero (cell_at s 0) && may_speak s.cells s.flags)) (eq-eqb (length s.cells) 48 is.size)
@@ -42,6 +45,7 @@ from_stands t s is =
 pub state_stands : (t : List ℕ) (s : State) → IsState s → All (IsOver t) s.cells → Stands t s
 state_stands t s is over = record { size = is.size; over = (over_all t s.cells).1 over; zero_cell = ap is_zero is.zero_cell; named = is.named }
 
+-- a state that stands over thresholds is one
 pub stands_state : (t : List ℕ) (s : State) → Stands t s → IsState s
 stands_state t s is =
     record {
@@ -51,16 +55,20 @@ stands_state t s is =
       named = is.named;
     }
 
+-- each state is at most itself, the order goes on from one to the next, and two states that are at most each other are
+-- the same
 pub states_are_ordered : StatesAreOrdered
 states_are_ordered = record { same = same; onward = onward; both = both } where
   same : (t : List ℕ) (a : State) → is_state_over t a ≡ true → is_at_most a a ≡ true
-  same t a is = and_from (are_at_most a.cells a.cells) (flags_at_most a.flags a.flags) (cells_same t a.cells (stands t a is).over) (up_same a.flags a.flags refl)
+  same t a is = and_from (are_at_most a.cells a.cells) (flags_at_most a.flags a.flags) (cells_same t a.cells (stands t a is).over)
+      (up_same a.flags a.flags refl)
 
   onward : (a b c : State) → is_at_most a b ≡ true → is_at_most b c ≡ true → is_at_most a c ≡ true
   onward a b c one two =
       let first = and_parts (are_at_most a.cells b.cells) (flags_at_most a.flags b.flags) one in
       let second = and_parts (are_at_most b.cells c.cells) (flags_at_most b.flags c.flags) two in
-      and_from (are_at_most a.cells c.cells) (flags_at_most a.flags c.flags) (cells_onward a.cells b.cells c.cells first.0 second.0) (up_onward a.flags b.flags c.flags first.1 second.1)
+      and_from (are_at_most a.cells c.cells) (flags_at_most a.flags c.flags) (cells_onward a.cells b.cells c.cells first.0 second.0)
+      (up_onward a.flags b.flags c.flags first.1 second.1)
 
   both : (a b : State) → is_at_most a b ≡ true → is_at_most b a ≡ true → a ≡ b
   both a b one two =
@@ -76,25 +84,29 @@ unknown_rank f = if is_unknown f then 1 else 0
 
 ranks_up : (f g : Flags) → flags_at_most f g ≡ true → unknown_rank f ≤ unknown_rank g
 unfolding unknown_rank
-ranks_up f g up = elim (up_cases f g up) [ inl same ↦ (let e = ap unknown_rank same in omega arith) | inr none ↦ (let e = ap unknown_rank none in let m = few f in omega arith) ] where
-  few : (h : Flags) → unknown_rank h ≤ 1
-  few Unknown = omega arith
-  few (Cmp a b) = omega arith
-  few (Res c) = omega arith
+ranks_up f g up = elim (up_cases f g up)
+    [ inl same ↦ (let e = ap unknown_rank same in omega arith) | inr none ↦ (let e = ap unknown_rank none in let m = few f in omega arith) ] where
+      few : (h : Flags) → unknown_rank h ≤ 1
+      few Unknown = omega arith
+      few (Cmp a b) = omega arith
+      few (Res c) = omega arith
 
 -- flags that aren't at most the lesser ones have a greater rank
 ranks_rise : (f g : Flags) → flags_at_most f g ≡ true → flags_at_most g f ≡ false → unknown_rank f < unknown_rank g
 unfolding unknown_rank
-ranks_rise f g up down = elim (up_cases f g up) [ inl same ↦ absurd (both_ways (flags_at_most g f) down (up_same g f (sym same))) | inr none ↦ known f none down ] where
-  known : (h : Flags) → g ≡ Unknown → flags_at_most g h ≡ false → unknown_rank h < unknown_rank g
-  known Unknown none below = absurd (both_ways (flags_at_most g Unknown) below (up_same g Unknown none))
-  known (Cmp a b) none below = let e = ap unknown_rank none in omega arith
-  known (Res c) none below = let e = ap unknown_rank none in omega arith
+ranks_rise f g up down = elim (up_cases f g up)
+    [ inl same ↦ absurd (both_ways (flags_at_most g f) down (up_same g f (sym same))) | inr none ↦ known f none down ] where
+      known : (h : Flags) → g ≡ Unknown → flags_at_most g h ≡ false → unknown_rank h < unknown_rank g
+      known Unknown none below = absurd (both_ways (flags_at_most g Unknown) below (up_same g Unknown none))
+      known (Cmp a b) none below = let e = ap unknown_rank none in omega arith
+      known (Res c) none below = let e = ap unknown_rank none in omega arith
 
+-- a state that is above another one has a greater rank, and the thresholds limit all ranks
 pub states_rise : StatesRise
 unfolding unknown_rank
 states_rise = record { rises = rises; limit = limit } where
-  rises : (t : List ℕ) (a b : State) → is_state_over t a ≡ true → is_state_over t b ≡ true → is_at_most a b ≡ true → is_at_most b a ≡ false → rank t a < rank t b
+  rises : (t : List ℕ) (a b : State) → is_state_over t a ≡ true → is_state_over t b ≡ true → is_at_most a b ≡ true → is_at_most b a ≡ false
+      → rank t a < rank t b
   rises t a b left right up down =
       let parts = and_parts (are_at_most a.cells b.cells) (flags_at_most a.flags b.flags) up in
       elim (heights_rise t a.cells b.cells (stands t a left).over (stands t b right).over parts.0) [
@@ -112,7 +124,8 @@ states_rise = record { rises = rises; limit = limit } where
   limit : (t : List ℕ) (a : State) → is_state_over t a ≡ true → rank t a ≤ 48 * (128 + length t) + 1
   limit t a is =
       let s = stands t a is in
-      let most : heights t a.cells ≤ 48 * (128 + length t) = subst (λ (n : ℕ). heights t a.cells ≤ n * (128 + length t)) s.size (heights_bound t a.cells s.over) in
+      let most : heights t a.cells ≤ 48 * (128 + length t) =
+      subst (λ (n : ℕ). heights t a.cells ≤ n * (128 + length t)) s.size (heights_bound t a.cells s.over) in
       let flags = few a.flags in
       omega arith
     where

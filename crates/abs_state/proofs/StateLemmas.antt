@@ -15,8 +15,14 @@ use Rattle.abs_state.specs.declared.flags.Flags.TheVariants.{Unknown}
 
 -- the word 0 alone is a set
 zero_is_set : IsSet (0 ∷ [])
-zero_is_set = record { some = omega arith; few = omega arith; rising = λ k h. absurd (omega arith); fits = All-cons (λ w. w < 2 ^ 32) 0 [] (omega arith) (All-nil (λ w. w < 2 ^ 32)) }
+zero_is_set = record {
+  some = omega arith;
+  few = omega arith;
+  rising = λ k h. absurd (omega arith);
+  fits = All-cons (λ w. w < 2 ^ 32) 0 [] (omega arith) (All-nil (λ w. w < 2 ^ 32));
+}
 
+-- any word is a value
 pub top_is_value : IsValue top
 top_is_value = (search rules, search rules, omega arith)
 
@@ -27,6 +33,7 @@ entry_value c = by_tests (c == 0) (c == 15) where
   by_tests false true = tt
   by_tests false false = top_is_value
 
+-- the state at an entry is one
 pub entry_is_state : IsState entry_state
 unfolding entry_cells
 entry_is_state =
@@ -38,7 +45,8 @@ entry_is_state =
     }
 
 -- the loop over all cells makes the state at the entry
-pub entry_from_loop : (cells : List Value) (n : ℕ) → cells ≡ map entry_cell (range_with_len 0 n) → n ≡ 48 → record { cells = cells; flags = Unknown } ≡ entry_state
+pub entry_from_loop : (cells : List Value) (n : ℕ) → cells ≡ map entry_cell (range_with_len 0 n) → n ≡ 48
+    → record { cells = cells; flags = Unknown } ≡ entry_state
 unfolding entry_cells
 entry_from_loop cells n made all = ap state_with (made ∙ ap (λ (k : ℕ). map entry_cell (range_with_len 0 k)) all) where
   state_with : List Value → State

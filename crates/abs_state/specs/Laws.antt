@@ -20,17 +20,20 @@ pub record StatesAreJoined : Type 0 where
   pub stands : (t : List ℕ) (a b : State) → IsThresholds t → is_state_over t a ≡ true → is_state_over t b ≡ true → is_state_over t (joined t a b) ≡ true
   pub first : (t : List ℕ) (a b : State) → IsThresholds t → is_state_over t a ≡ true → is_state_over t b ≡ true → is_at_most a (joined t a b) ≡ true
   pub second : (t : List ℕ) (a b : State) → IsThresholds t → is_state_over t a ≡ true → is_state_over t b ≡ true → is_at_most b (joined t a b) ≡ true
-  pub least : (t : List ℕ) (a b c : State) → IsThresholds t → is_state_over t a ≡ true → is_state_over t b ≡ true → is_state_over t c ≡ true → is_at_most a c ≡ true → is_at_most b c ≡ true → is_at_most (joined t a b) c ≡ true
+  pub least : (t : List ℕ) (a b c : State) → IsThresholds t → is_state_over t a ≡ true → is_state_over t b ≡ true → is_state_over t c ≡ true
+      → is_at_most a c ≡ true → is_at_most b c ≡ true → is_at_most (joined t a b) c ≡ true
 
 -- a rank rises with each step upward, and the thresholds limit it
 pub record StatesRise : Type 0 where
-  pub rises : (t : List ℕ) (a b : State) → is_state_over t a ≡ true → is_state_over t b ≡ true → is_at_most a b ≡ true → is_at_most b a ≡ false → rank t a < rank t b
+  pub rises : (t : List ℕ) (a b : State) → is_state_over t a ≡ true → is_state_over t b ≡ true → is_at_most a b ≡ true → is_at_most b a ≡ false
+      → rank t a < rank t b
   pub limit : (t : List ℕ) (a : State) → is_state_over t a ≡ true → rank t a ≤ 48 * (128 + length t) + 1
 
 -- what is written to greater states is greater
 pub record WritesKeepOrder : Type 0 where
   pub cell : (a b : State) (c : ℕ) (v u : Value) → is_at_most a b ≡ true → is_value_at_most v u ≡ true → is_at_most (with_cell a c v) (with_cell b c u) ≡ true
-  pub forgotten : (t more : List ℕ) (a b : State) (m n : ℕ) → is_state_over more a ≡ true → is_state_over t b ≡ true → is_at_most a b ≡ true → is_within m n ≡ true → is_at_most (without a m) (without b n) ≡ true
+  pub forgotten : (t more : List ℕ) (a b : State) (m n : ℕ) → is_state_over more a ≡ true → is_state_over t b ≡ true → is_at_most a b ≡ true
+      → is_within m n ≡ true → is_at_most (without a m) (without b n) ≡ true
 
 -- what is written to a state may stand where the state may
 pub record WritesStand : Type 0 where

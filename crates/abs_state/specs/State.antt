@@ -1,5 +1,6 @@
 -- States: what is known at a program point, by its cells and flags.
-use Rattle.std.specs.Prelude.{◌==◌, ◌≡◌, ℕ, ◌+◌, ◌^◌, ◌<◌, ◌&&◌, Bool, true, false, not, List, [], ◌∷◌, length, map, slice_index_or, slice_set, All, nat_lt, if◌then◌else◌}
+use Rattle.std.specs.Prelude.{◌==◌, ◌≡◌, ℕ, ◌+◌, ◌^◌, ◌<◌, ◌&&◌, Bool, true, false, not, List, [], ◌∷◌, length, map, slice_index_or, slice_set, All}
+use Rattle.std.specs.Prelude.{nat_lt, if◌then◌else◌}
 use Rattle.std.specs.List.{list_all, range_with_len}
 use Rattle.call_effects.specs.Mask.{has_cell}
 use Rattle.value_lattice.specs.Height.{are_at_most, heights}

@@ -37,6 +37,7 @@ found_at y xs s x true is each e =
     record { place = 0; within = omega arith; there = equal; same = ap (λ (z : BoundAssertion). is_same (subject_of z.body) s) (sym equal) ∙ is }
 found_at y xs s x false is each e = let a = each e in record { place = suc a.place; within = omega (arith, a.within); there = a.there; same = a.same }
 
+-- what is found about a subject is of the list and about it
 pub found : (list : List BoundAssertion) (s : Subject) (x : BoundAssertion) → about list s ≡ Some x → IsAbout list s x
 found [] s x e = cc
 found (y ∷ xs) s x e = found_at y xs s x (is_same (subject_of y.body) s) refl (λ later. found xs s x later) e

@@ -90,6 +90,7 @@ go_behind image earlier assertions tail later (AreBoundTo.OneMore x bound xs mor
 no_pairs : AllPairs AreApart []
 no_pairs i j d less within = absurd (omega (arith, less, within))
 
+-- a list is bound exactly where each statement says what is written and no two speak of the same
 pub bindings_meant : BindingsAreMeant
 bindings_meant image assertions list = (there, back)
   where
@@ -180,6 +181,7 @@ refuses image list assertion why apart (IsRefusedBehind.ForAnother says other is
     ap (followed (behind list assertion.line)) (said image assertion.line assertion.body says is)
     ∙ ap (alone assertion.line says) (about_other list says other apart contains same)
 
+-- a refusal is that of the first statement that has one
 pub refusals_first : RefusalsAreFirst
 refusals_first image assertions why = (there, back)
   where

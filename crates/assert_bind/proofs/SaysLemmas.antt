@@ -20,11 +20,13 @@ pub record IsFollowed {A B : Type 0} (more : A → Result B BindRefusal) (first 
   pub is : first ≡ Ok value
   pub gives : more value ≡ answer
 
+-- an answer of two steps is that of the second behind the first
 pub followed_ok : {A B : Type 0} (more : A → Result B BindRefusal) (first : Result A BindRefusal) (b : B)
     → followed more first ≡ Ok b → IsFollowed more first (Ok b)
 followed_ok more (Err why) b is = cc
 followed_ok more (Ok a) b is = record { value = a; is = refl; gives = is }
 
+-- a refusal of two steps is that of the first, or of the second behind it
 pub followed_err : {A B : Type 0} (more : A → Result B BindRefusal) (first : Result A BindRefusal) (why : BindRefusal)
     → followed more first ≡ Err why → (first ≡ Err why) ⊎ IsFollowed more first (Err why)
 followed_err more (Err other) why is = let same : other ≡ why = cc in inl (ap (λ (w : BindRefusal). Err w) same)
@@ -223,6 +225,7 @@ aimed_nothing image line says make spot spots why are is =
     of (inr f) = behind_one image line spot f.value spots why (is_placed image line spot f.value f.is)
         (are_misplaced image line spots why (made_err (make f.value) (bound_places image line spots) why f.gives))
 
+-- a statement that is refused says nothing, for this cause
 pub says_nothing : (image : List ℕ) (line : ℕ) (says : Body) (why : BindRefusal) → bound_body image line says ≡ Err why → SaysNothing image line says why
 says_nothing image line (written.Root spot) why e = one_nothing image line (written.Root spot) spot why refl
     (made_err body.Root (bound_place image line spot) why e)

@@ -96,6 +96,7 @@ met_by list sight line (body.CallTo pc to) allowed is = λ at.
 met_by list sight line (body.Loop pc count) allowed is = tt
 met_by list sight line (body.Stub entry time) allowed is = tt
 
+-- what the look-ups answer of an instruction is all that a run must meet there
 pub answers_all : AnswersAreAll
 answers_all list sight sound = (
   allowed list sight,

@@ -132,6 +132,7 @@ listed_once : (list : List BoundAssertion) → AllPairs AreApart list → AllPai
 listed_once [] apart = λ i j d less within. absurd (omega (arith, less, within))
 listed_once (x ∷ xs) apart = once_front x xs (entry_in x) apart refl (listed_once xs (apart_tail x xs apart))
 
+-- the subprograms that aren't looked into are those of the statements
 pub stubs_those : StubsAreThose
 stubs_those list sound = record {
   each = λ entry. (λ c. has_time list entry sound.apart (is_from list entry c), λ time. is_timed list entry (about list (of.Entry entry)) refl time);

@@ -68,6 +68,7 @@ same_by_order (Loop a) (Word b s) = refl
 same_by_order (Loop a) (Targets b) = refl
 same_by_order (Loop a) (Loop b) = equal a b
 
+-- both tests hold where both together do
 pub and_both : (a b : Bool) → (a && b) ≡ true → (a ≡ true) × (b ≡ true)
 and_both true b e = (refl, e)
 and_both false b e = absurd (false≢true e)

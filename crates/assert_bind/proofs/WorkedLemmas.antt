@@ -57,5 +57,6 @@ broken (suc (suc (suc zero))) d less = λ meets. (meets 3 any (omega arith)) ref
 broken (suc (suc (suc (suc zero)))) d less = λ meets. no_callee ((meets 4 any (omega arith)) refl)
 broken (suc (suc (suc (suc (suc k))))) d less = absurd (omega (arith, less))
 
+-- each kind of statement can be met and broken
 pub can_be_both : CanBeMetAndBroken
 can_be_both = record { met = met; broken = broken }

@@ -15,6 +15,7 @@ behind list (Ok more) = Ok (list ++ more)
 abbrev pub decided : List Assertion → List Row → Result (List Assertion) AssertRefusal
 decided list rows = limited (behind list (all_of (take (4097 - length list) rows)))
 
+-- the whole list is what is decided from no statement on
 pub nothing_yet : (rows : List Row) → limited (all_of (take 4097 rows)) ≡ decided [] rows
 nothing_yet rows = ap limited (of (all_of (take 4097 rows))) where
   of : (rest : Result (List Assertion) AssertRefusal) → rest ≡ behind [] rest
@@ -39,21 +40,25 @@ longer : (list : List Assertion) (assertion : Assertion) → length (list ++ ass
 longer list assertion = length-append list (assertion ∷ [])
 
 -- the next line is an assertion
-pub next_read : (all : Result (List Assertion) AssertRefusal) (list : List Assertion) (row : Row) (rest : List Row) (assertion : Assertion) → length list ≤ 4096 → all ≡ decided list (row ∷ rest) → assertion_of row ≡ Ok assertion
+pub next_read : (all : Result (List Assertion) AssertRefusal) (list : List Assertion) (row : Row) (rest : List Row) (assertion : Assertion)
+    → length list ≤ 4096 → all ≡ decided list (row ∷ rest) → assertion_of row ≡ Ok assertion
     → all ≡ decided (list ++ assertion ∷ []) rest
 next_read all list row rest assertion few so_far is =
     so_far ∙ one_more list row rest assertion few is
     ∙ ap (λ (n : ℕ). limited (behind (list ++ assertion ∷ []) (all_of (take (4097 - n) rest)))) (sym (longer list assertion))
 
 -- the next line is refused
-pub next_refused : (all : Result (List Assertion) AssertRefusal) (list : List Assertion) (row : Row) (rest : List Row) (why : AssertRefusal) → length list ≤ 4096 → all ≡ decided list (row ∷ rest) → assertion_of row ≡ Err why → all ≡ Err why
+pub next_refused : (all : Result (List Assertion) AssertRefusal) (list : List Assertion) (row : Row) (rest : List Row) (why : AssertRefusal)
+    → length list ≤ 4096 → all ≡ decided list (row ∷ rest) → assertion_of row ≡ Err why → all ≡ Err why
 next_refused all list row rest why few so_far is =
     so_far
     ∙ ap (λ (rows : List Row). limited (behind list (all_of rows))) (one_taken (length list) row rest (omega arith))
     ∙ ap (λ (read : Result Assertion AssertRefusal). limited (behind list (before read (all_of (take (4097 - (length list + 1)) rest))))) is
 
 -- the refusal of the next line is that of the text
-pub refused_next : (all : Result (List Assertion) AssertRefusal) (list : List Assertion) (row : Row) (rest : List Row) (why : AssertRefusal) → length list ≤ 4096 → all ≡ decided list (row ∷ rest) → IsRefusalOf (assertion_of row) why → IsRefusalOf all why
+pub refused_next : (all : Result (List Assertion) AssertRefusal) (list : List Assertion) (row : Row) (rest : List Row) (why : AssertRefusal)
+    → length list ≤ 4096 → all ≡ decided list (row ∷ rest) → IsRefusalOf (assertion_of row) why → IsRefusalOf all why
 refused_next all list row rest refusal.Want few so_far fails = tt
-refused_next all list row rest (refusal.Line number column expected) few so_far fails = next_refused all list row rest (refusal.Line number column expected) few so_far fails
+refused_next all list row rest (refusal.Line number column expected) few so_far fails =
+    next_refused all list row rest (refusal.Line number column expected) few so_far fails
 refused_next all list row rest (refusal.Limit count) few so_far fails = next_refused all list row rest (refusal.Limit count) few so_far fails

@@ -44,11 +44,15 @@ onto_all P false token tokens one all = all
 tokens_stand : (column : ℕ) (inside : Bool) (bytes : List ℕ) → All (StandsFrom column bytes) (tokens_from column inside bytes)
 tokens_stand column inside [] = All-nil (StandsFrom column [])
 tokens_stand column inside (b ∷ bytes) =
-    onto_all (StandsFrom column (b ∷ bytes)) (starts inside b) (record { word = word_at b bytes; column = column }) (tokens_from (column + 1) (is_plain b) bytes)
+    onto_all (StandsFrom column (b ∷ bytes)) (starts inside b) (record { word = word_at b bytes; column = column })
+    (tokens_from (column + 1) (is_plain b) bytes)
     (head_stands column b bytes) (all_further column b bytes (tokens_from (column + 1) (is_plain b) bytes) (tokens_stand (column + 1) (is_plain b) bytes))
 
+-- each word stands at its column of the line
 pub columns_right : ColumnsAreRight
 columns_right line = record {
-  each = All-weaker (StandsFrom 1 line) (Stands line) (λ token s. record { some = s.some; within = (let within = s.within in omega arith); is = s.is }) (tokens_from 1 false line) (tokens_stand 1 false line);
+  each = All-weaker (StandsFrom 1 line) (Stands line)
+      (λ token s. record { some = s.some; within = (let within = s.within in omega arith); is = s.is }) (tokens_from 1 false line)
+      (tokens_stand 1 false line);
   end = omega arith;
 }

@@ -1,5 +1,6 @@
 -- Lines are refused at the first word that doesn't fit.
-use Rattle.std.proofs.Common.{◌≡◌, ℕ, Bool, true, false, List, [], ◌∷◌, ◌++◌, map, Option, Some, None, Result, Ok, Err, refl, sym, ap, subst, ◌∙◌, codes, pos, if◌then◌else◌, append_assoc}
+use Rattle.std.proofs.Common.{◌≡◌, ℕ, Bool, true, false, List, [], ◌∷◌, ◌++◌, map, Option, Some, None, Result, Ok, Err, refl, sym, ap, subst, ◌∙◌}
+use Rattle.std.proofs.Common.{codes, pos, if◌then◌else◌, append_assoc}
 use Rattle.std.specs.Str.{bytes_eq}
 use Rattle.assert_lang.specs.Grammar.{IsWritten}
 use Rattle.assert_lang.specs.Keyword.{keyword_of}
@@ -8,7 +9,8 @@ use Rattle.assert_lang.specs.Number.{count_of, range_of}
 use Rattle.assert_lang.specs.Phrase.{Token, Phrase}
 use Rattle.assert_lang.specs.Register.{register_of}
 use Rattle.assert_lang.specs.Spot.{spot_of}
-use Rattle.assert_lang.specs.Statement.{fitting, first_as, followed, place, register, range, count, itself, the_word, end, in_front, listed, made, places, form, statement}
+use Rattle.assert_lang.specs.Statement.{fitting, first_as, followed, place, register, range, count, itself, the_word, end, in_front, listed, made}
+use Rattle.assert_lang.specs.Statement.{places, form, statement}
 use Rattle.assert_lang.specs.declared.assertion.Body.{Body}
 use Rattle.assert_lang.specs.declared.assertion.Body.TheVariants as body
 use Rattle.assert_lang.specs.declared.keyword.Keyword.{Keyword}
@@ -29,12 +31,14 @@ record IsTaken {B : Type 0} (p : Phrase → Result B Fault) (tokens : List Token
 
 -- where a line of these words is refused
 data Refused {B : Type 0} (p : Phrase → Result B Fault) (tokens : List Token) (stop : ℕ) (column : ℕ) : Type 0 where
-  AtWord : (earlier : List Token) (token : Token) (later more : List Token) → tokens ≡ earlier ++ token ∷ later → IsTaken p (earlier ++ more) → ((more : List Token) → ¬ IsTaken p (earlier ++ token ∷ more)) → column ≡ token.column → Refused p tokens stop column
+  AtWord : (earlier : List Token) (token : Token) (later more : List Token) → tokens ≡ earlier ++ token ∷ later → IsTaken p (earlier ++ more)
+      → ((more : List Token) → ¬ IsTaken p (earlier ++ token ∷ more)) → column ≡ token.column → Refused p tokens stop column
   AtEnd : (more : List Token) → IsTaken p (tokens ++ more) → ¬ IsTaken p tokens → column ≡ stop → Refused p tokens stop column
 
 -- what reads a line refuses it at its first misfit
 abbrev IsStrict : {B : Type 0} → (Phrase → Result B Fault) → Type 0
-IsStrict p = (tokens : List Token) (stop column : ℕ) (expected : Expected) → p (record { tokens = tokens; end = stop }) ≡ Err (Misfit column expected) → Refused p tokens stop column
+IsStrict p = (tokens : List Token) (stop column : ℕ) (expected : Expected)
+    → p (record { tokens = tokens; end = stop }) ≡ Err (Misfit column expected) → Refused p tokens stop column
 
 -- some line is read
 record IsLive {B : Type 0} (p : Phrase → Result B Fault) : Type 0 where
@@ -52,19 +56,23 @@ same_column : {B : Type 0} (column other : ℕ) (expected wanted : Expected) →
 same_column column other expected wanted is = cc
 
 -- what one reads behind a word is refused where another refuses it
-lift : {A B : Type 0} (p : Phrase → Result A Fault) (q : Phrase → Result B Fault) (token : Token) (rest : List Token) (stop column : ℕ) → ((ts : List Token) → IsTaken q ts → IsTaken p (token ∷ ts)) → ((ts : List Token) → IsTaken p (token ∷ ts) → IsTaken q ts)
+lift : {A B : Type 0} (p : Phrase → Result A Fault) (q : Phrase → Result B Fault) (token : Token) (rest : List Token) (stop column : ℕ)
+    → ((ts : List Token) → IsTaken q ts → IsTaken p (token ∷ ts)) → ((ts : List Token) → IsTaken p (token ∷ ts) → IsTaken q ts)
     → Refused q rest stop column → Refused p (token ∷ rest) stop column
 lift p q token rest stop column more less (Refused.AtWord earlier other behind others stands begun stuck at) =
     Refused.AtWord (token ∷ earlier) other behind others (ap (λ (ts : List Token). token ∷ ts) stands) (more (earlier ++ others) begun)
     (λ others t. stuck others (less (earlier ++ other ∷ others) t)) at
-lift p q token rest stop column more less (Refused.AtEnd others begun stuck at) = Refused.AtEnd others (more (rest ++ others) begun) (λ t. stuck (less rest t)) at
+lift p q token rest stop column more less (Refused.AtEnd others begun stuck at) =
+    Refused.AtEnd others (more (rest ++ others) begun) (λ t. stuck (less rest t)) at
 
 -- the same with no word in front
-through : {A B : Type 0} (p : Phrase → Result A Fault) (q : Phrase → Result B Fault) (tokens : List Token) (stop column : ℕ) → ((ts : List Token) → IsTaken q ts → IsTaken p ts) → ((ts : List Token) → IsTaken p ts → IsTaken q ts) → Refused q tokens stop column
+through : {A B : Type 0} (p : Phrase → Result A Fault) (q : Phrase → Result B Fault) (tokens : List Token) (stop column : ℕ)
+    → ((ts : List Token) → IsTaken q ts → IsTaken p ts) → ((ts : List Token) → IsTaken p ts → IsTaken q ts) → Refused q tokens stop column
     → Refused p tokens stop column
 through p q tokens stop column more less (Refused.AtWord earlier other behind others stands begun stuck at) =
     Refused.AtWord earlier other behind others stands (more (earlier ++ others) begun) (λ others t. stuck others (less (earlier ++ other ∷ others) t)) at
-through p q tokens stop column more less (Refused.AtEnd others begun stuck at) = Refused.AtEnd others (more (tokens ++ others) begun) (λ t. stuck (less tokens t)) at
+through p q tokens stop column more less (Refused.AtEnd others begun stuck at) =
+    Refused.AtEnd others (more (tokens ++ others) begun) (λ t. stuck (less tokens t)) at
 
 module _ {A B : Type 0} (read : List ℕ → Option A) (expected : Expected) (more : A → Phrase → Result B Fault) where
   -- the first word as something, and what follows it
@@ -72,10 +80,13 @@ module _ {A B : Type 0} (read : List ℕ → Option A) (expected : Expected) (mo
   both phrase = followed more (first_as read expected phrase)
 
   -- a first word that is read leaves what follows
-  steps : (token : Token) (rest : List Token) (stop : ℕ) (value : A) → read token.word ≡ Some value → both (record { tokens = token ∷ rest; end = stop }) ≡ more value (record { tokens = rest; end = stop })
-  steps token rest stop value is = ap (λ (found : Option A). followed more (fitting (Misfit token.column expected) (record { tokens = rest; end = stop }) found)) is
+  steps : (token : Token) (rest : List Token) (stop : ℕ) (value : A) → read token.word ≡ Some value
+      → both (record { tokens = token ∷ rest; end = stop }) ≡ more value (record { tokens = rest; end = stop })
+  steps token rest stop value is = ap (λ (found : Option A). followed more
+      (fitting (Misfit token.column expected) (record { tokens = rest; end = stop }) found)) is
 
-  refuses : (token : Token) (rest : List Token) (stop : ℕ) → read token.word ≡ None → both (record { tokens = token ∷ rest; end = stop }) ≡ Err (Misfit token.column expected)
+  refuses : (token : Token) (rest : List Token) (stop : ℕ) → read token.word ≡ None
+      → both (record { tokens = token ∷ rest; end = stop }) ≡ Err (Misfit token.column expected)
   refuses token rest stop is = ap (λ (found : Option A). followed more (fitting (Misfit token.column expected) (record { tokens = rest; end = stop }) found)) is
 
   taken_more : (token : Token) (rest : List Token) (value : A) → read token.word ≡ Some value → IsTaken (more value) rest → IsTaken both (token ∷ rest)
@@ -97,14 +108,17 @@ module _ {A B : Type 0} (read : List ℕ → Option A) (expected : Expected) (mo
   strict l each [] stop column wanted is = Refused.AtEnd l.tokens l.taken none_taken (same_column {B = B} column stop wanted expected is)
   strict l each (token ∷ rest) stop column wanted is = of (read token.word) refl where
     of : (found : Option A) → read token.word ≡ found → Refused both (token ∷ rest) stop column
-    of None none = Refused.AtWord [] token rest l.tokens refl l.taken (λ others. not_taken token others none) (same_column {B = B} column token.column wanted expected (sym (refuses token rest stop none) ∙ is))
-    of (Some value) some = lift both (more value) token rest stop column (λ ts. taken_more token ts value some) (λ ts. taken_less token ts value some) (each value rest stop column wanted (sym (steps token rest stop value some) ∙ is))
+    of None none = Refused.AtWord [] token rest l.tokens refl l.taken (λ others. not_taken token others none)
+        (same_column {B = B} column token.column wanted expected (sym (refuses token rest stop none) ∙ is))
+    of (Some value) some = lift both (more value) token rest stop column (λ ts. taken_more token ts value some)
+        (λ ts. taken_less token ts value some) (each value rest stop column wanted (sym (steps token rest stop value some) ∙ is))
 
 -- nothing follows
 strict_end : {B : Type 0} (value : B) → IsStrict (end value)
 strict_end value [] stop column expected is = cc
 strict_end {B} value (token ∷ rest) stop column expected is =
-    Refused.AtWord [] token rest [] refl (record { stop = 0; value = value; is = refl }) (λ others t. (let e = t.is in cc)) (same_column {B = B} column token.column expected wanted.End is)
+    Refused.AtWord [] token rest [] refl (record { stop = 0; value = value; is = refl }) (λ others t. (let e = t.is in cc))
+    (same_column {B = B} column token.column expected wanted.End is)
 
 live_end : {B : Type 0} (value : B) → IsLive (end value)
 live_end value = record { tokens = []; taken = record { stop = 0; value = value; is = refl } }
@@ -120,7 +134,8 @@ some_spot = as_token (codes "f")
 list_live : IsTaken (reading true) (some_spot ∷ [])
 list_live = record { stop = 0; value = Name (codes "f") ∷ []; is = refl }
 
-front_fails : (fault : Fault) (spot : Spot) (later : Result (List Spot) Fault) (column : ℕ) (expected : Expected) → in_front fault (Some spot) later ≡ misfit column expected → later ≡ misfit column expected
+front_fails : (fault : Fault) (spot : Spot) (later : Result (List Spot) Fault) (column : ℕ) (expected : Expected)
+    → in_front fault (Some spot) later ≡ misfit column expected → later ≡ misfit column expected
 front_fails fault spot (Err other) column expected is = is
 front_fails fault spot (Ok spots) column expected is = cc
 
@@ -132,20 +147,24 @@ front_okay : (fault : Fault) (spot : Spot) (later : Result (List Spot) Fault) (t
 front_okay fault spot (Err other) to is = cc
 front_okay fault spot (Ok spots) to is = record { spots = spots; is = refl }
 
-spot_steps : (token : Token) (rest : List Token) (stop : ℕ) (found : Option Spot) → spot_of token.word ≡ found → listed true stop (token ∷ rest) ≡ in_front (Misfit token.column wanted.Place) found (listed false stop rest)
+spot_steps : (token : Token) (rest : List Token) (stop : ℕ) (found : Option Spot) → spot_of token.word ≡ found
+    → listed true stop (token ∷ rest) ≡ in_front (Misfit token.column wanted.Place) found (listed false stop rest)
 spot_steps token rest stop found is = ap (λ (f : Option Spot). in_front (Misfit token.column wanted.Place) f (listed false stop rest)) is
 
-comma_steps : (token : Token) (rest : List Token) (stop : ℕ) (same : Bool) → bytes_eq token.word (codes ",") ≡ same → listed false stop (token ∷ rest) ≡ (if same then listed true stop rest else misfit token.column wanted.End)
+comma_steps : (token : Token) (rest : List Token) (stop : ℕ) (same : Bool) → bytes_eq token.word (codes ",") ≡ same
+    → listed false stop (token ∷ rest) ≡ (if same then listed true stop rest else misfit token.column wanted.End)
 comma_steps token rest stop same is = ap (λ (s : Bool). if s then listed true stop rest else misfit token.column wanted.End) is
 
-spot_more : (token : Token) (spot : Spot) (rest : List Token) → spot_of token.word ≡ Some spot → IsTaken (reading false) rest → IsTaken (reading true) (token ∷ rest)
+spot_more : (token : Token) (spot : Spot) (rest : List Token) → spot_of token.word ≡ Some spot → IsTaken (reading false) rest
+    → IsTaken (reading true) (token ∷ rest)
 spot_more token spot rest is t = record {
   stop = t.stop;
   value = spot ∷ t.value;
   is = spot_steps token rest t.stop (Some spot) is ∙ ap (in_front (Misfit token.column wanted.Place) (Some spot)) t.is;
 }
 
-spot_less : (token : Token) (spot : Spot) (rest : List Token) → spot_of token.word ≡ Some spot → IsTaken (reading true) (token ∷ rest) → IsTaken (reading false) rest
+spot_less : (token : Token) (spot : Spot) (rest : List Token) → spot_of token.word ≡ Some spot → IsTaken (reading true) (token ∷ rest)
+    → IsTaken (reading false) rest
 spot_less token spot rest is t =
     let o = front_okay (Misfit token.column wanted.Place) spot (listed false t.stop rest) t.value (sym (spot_steps token rest t.stop (Some spot) is) ∙ t.is) in
     record { stop = t.stop; value = o.spots; is = o.is }
@@ -160,15 +179,21 @@ no_list : ¬ IsTaken (reading true) []
 no_list t = let e = t.is in cc
 
 -- a list whose first word is a place is refused where what follows is, and one that goes on by a comma too
-at_spot : (token : Token) (rest : List Token) (stop column : ℕ) (expected : Expected) (found : Option Spot) → spot_of token.word ≡ found → (listed false stop rest ≡ misfit column expected → Refused (reading false) rest stop column) → listed true stop (token ∷ rest) ≡ misfit column expected
+at_spot : (token : Token) (rest : List Token) (stop column : ℕ) (expected : Expected) (found : Option Spot) → spot_of token.word ≡ found
+    → (listed false stop rest ≡ misfit column expected → Refused (reading false) rest stop column)
+    → listed true stop (token ∷ rest) ≡ misfit column expected
     → Refused (reading true) (token ∷ rest) stop column
 at_spot token rest stop column expected None none each is =
-    Refused.AtWord [] token rest (some_spot ∷ []) refl list_live (λ others. no_spot token others none) (same_column {B = List Spot} column token.column expected wanted.Place (sym (spot_steps token rest stop None none) ∙ is))
+    Refused.AtWord [] token rest (some_spot ∷ []) refl list_live (λ others. no_spot token others none)
+    (same_column {B = List Spot} column token.column expected wanted.Place (sym (spot_steps token rest stop None none) ∙ is))
 at_spot token rest stop column expected (Some spot) some each is =
     lift (reading true) (reading false) token rest stop column (λ ts. spot_more token spot ts some) (λ ts. spot_less token spot ts some)
-    (each (front_fails (Misfit token.column wanted.Place) spot (listed false stop rest) column expected (sym (spot_steps token rest stop (Some spot) some) ∙ is)))
+    (each (front_fails (Misfit token.column wanted.Place) spot (listed false stop rest) column expected
+    (sym (spot_steps token rest stop (Some spot) some) ∙ is)))
 
-at_comma : (token : Token) (rest : List Token) (stop column : ℕ) (expected : Expected) (same : Bool) → bytes_eq token.word (codes ",") ≡ same → (listed true stop rest ≡ misfit column expected → Refused (reading true) rest stop column) → listed false stop (token ∷ rest) ≡ misfit column expected
+at_comma : (token : Token) (rest : List Token) (stop column : ℕ) (expected : Expected) (same : Bool) → bytes_eq token.word (codes ",") ≡ same
+    → (listed true stop rest ≡ misfit column expected → Refused (reading true) rest stop column)
+    → listed false stop (token ∷ rest) ≡ misfit column expected
     → Refused (reading false) (token ∷ rest) stop column
 at_comma token rest stop column expected true same each is =
     lift (reading false) (reading true) token rest stop column
@@ -176,15 +201,21 @@ at_comma token rest stop column expected true same each is =
     (λ ts t. record { stop = t.stop; value = t.value; is = sym (comma_steps token ts t.stop true same) ∙ t.is })
     (each (sym (comma_steps token rest stop true same) ∙ is))
 at_comma token rest stop column expected false other each is =
-    Refused.AtWord [] token rest [] refl (record { stop = 0; value = []; is = refl }) (λ others. no_comma token others other) (same_column {B = List Spot} column token.column expected wanted.End (sym (comma_steps token rest stop false other) ∙ is))
+    Refused.AtWord [] token rest [] refl (record { stop = 0; value = []; is = refl }) (λ others. no_comma token others other)
+    (same_column {B = List Spot} column token.column expected wanted.End (sym (comma_steps token rest stop false other) ∙ is))
 
-strict_list : (tokens : List Token) (first : Bool) (stop column : ℕ) (expected : Expected) → listed first stop tokens ≡ misfit column expected → Refused (reading first) tokens stop column
-strict_list [] true stop column expected is = Refused.AtEnd (some_spot ∷ []) list_live no_list (same_column {B = List Spot} column stop expected wanted.Place is)
+strict_list : (tokens : List Token) (first : Bool) (stop column : ℕ) (expected : Expected) → listed first stop tokens ≡ misfit column expected
+    → Refused (reading first) tokens stop column
+strict_list [] true stop column expected is =
+    Refused.AtEnd (some_spot ∷ []) list_live no_list (same_column {B = List Spot} column stop expected wanted.Place is)
 strict_list [] false stop column expected is = cc
-strict_list (token ∷ rest) true stop column expected is = at_spot token rest stop column expected (spot_of token.word) refl (strict_list rest false stop column expected) is
-strict_list (token ∷ rest) false stop column expected is = at_comma token rest stop column expected (bytes_eq token.word (codes ",")) refl (strict_list rest true stop column expected) is
+strict_list (token ∷ rest) true stop column expected is =
+    at_spot token rest stop column expected (spot_of token.word) refl (strict_list rest false stop column expected) is
+strict_list (token ∷ rest) false stop column expected is =
+    at_comma token rest stop column expected (bytes_eq token.word (codes ",")) refl (strict_list rest true stop column expected) is
 
-made_fails : (make : List Spot → Body) (list : Result (List Spot) Fault) (column : ℕ) (expected : Expected) → made make list ≡ misfit column expected → list ≡ misfit column expected
+made_fails : (make : List Spot → Body) (list : Result (List Spot) Fault) (column : ℕ) (expected : Expected) → made make list ≡ misfit column expected
+    → list ≡ misfit column expected
 made_fails make (Err fault) column expected is = let same : fault ≡ Misfit column expected = cc in ap (λ (f : Fault). Err f) same
 made_fails make (Ok to) column expected is = cc
 
@@ -200,7 +231,8 @@ made_less make tokens t = let o = made_okay make (listed true t.stop tokens) t.v
 
 strict_places : (make : List Spot → Body) → IsStrict (places make)
 strict_places make tokens stop column expected is =
-    through (places make) (reading true) tokens stop column (made_more make) (made_less make) (strict_list tokens true stop column expected (made_fails make (listed true stop tokens) column expected is))
+    through (places make) (reading true) tokens stop column (made_more make) (made_less make)
+    (strict_list tokens true stop column expected (made_fails make (listed true stop tokens) column expected is))
 
 live_places : (make : List Spot → Body) → IsLive (places make)
 live_places make = record { tokens = some_spot ∷ []; taken = made_more make (some_spot ∷ []) list_live }
@@ -233,7 +265,8 @@ strict_aiming : (make : Spot → List Spot → Body) (spot : Spot) → IsStrict 
 strict_aiming make spot = strict (itself (codes "to")) wanted.To (λ _. places (make spot)) (live_aiming make spot) (λ _. strict_places (make spot))
 
 live_range : (spot : Spot) (reg : ℕ) → IsLive (range (λ ends. end (body.At spot reg ends.0 ends.1)))
-live_range spot reg = live range_of wanted.Range (λ ends. end (body.At spot reg ends.0 ends.1)) (codes "0..0") (pos 0, pos 0) refl (live_end (body.At spot reg (pos 0) (pos 0)))
+live_range spot reg = live range_of wanted.Range (λ ends. end (body.At spot reg ends.0 ends.1)) (codes "0..0") (pos 0, pos 0) refl
+    (live_end (body.At spot reg (pos 0) (pos 0)))
 
 live_register : (spot : Spot) → IsLive (register (λ reg. range (λ ends. end (body.At spot reg ends.0 ends.1))))
 live_register spot = live register_of wanted.Register (λ reg. range (λ ends. end (body.At spot reg ends.0 ends.1))) (codes "%g1") 1 refl (live_range spot 1)
@@ -241,7 +274,8 @@ live_register spot = live register_of wanted.Register (λ reg. range (λ ends. e
 strict_register : (spot : Spot) → IsStrict (register (λ reg. range (λ ends. end (body.At spot reg ends.0 ends.1))))
 strict_register spot =
     strict register_of wanted.Register (λ reg. range (λ ends. end (body.At spot reg ends.0 ends.1))) (live_register spot)
-    (λ reg. strict range_of wanted.Range (λ ends. end (body.At spot reg ends.0 ends.1)) (live_range spot reg) (λ ends. strict_end (body.At spot reg ends.0 ends.1)))
+    (λ reg. strict range_of wanted.Range (λ ends. end (body.At spot reg ends.0 ends.1)) (live_range spot reg)
+    (λ ends. strict_end (body.At spot reg ends.0 ends.1)))
 
 live_form : (keyword : Keyword) → IsLive (form keyword)
 live_form first.Root = live_spot (λ spot. end (body.Root spot)) (live_end (body.Root (Name (codes "f"))))
@@ -249,21 +283,26 @@ live_form first.Never = live_spot (λ spot. end (body.Never spot)) (live_end (bo
 live_form first.At = live_spot (λ spot. register (λ reg. range (λ ends. end (body.At spot reg ends.0 ends.1)))) (live_register (Name (codes "f")))
 live_form first.Jump = live_spot (aiming body.Jump) (live_aiming body.Jump (Name (codes "f")))
 live_form first.Call = live_spot (aiming body.CallTo) (live_aiming body.CallTo (Name (codes "f")))
-live_form first.Loop = live_spot (counting body.Loop (codes "repeats") wanted.Repeats) (live_counting body.Loop (codes "repeats") wanted.Repeats (Name (codes "f")))
+live_form first.Loop = live_spot (counting body.Loop (codes "repeats") wanted.Repeats)
+    (live_counting body.Loop (codes "repeats") wanted.Repeats (Name (codes "f")))
 live_form first.Stub = live_spot (counting body.Stub (codes "time") wanted.Time) (live_counting body.Stub (codes "time") wanted.Time (Name (codes "f")))
 
 strict_form : (keyword : Keyword) → IsStrict (form keyword)
 strict_form first.Root = strict spot_of wanted.Place (λ spot. end (body.Root spot)) (live_form first.Root) (λ spot. strict_end (body.Root spot))
 strict_form first.Never = strict spot_of wanted.Place (λ spot. end (body.Never spot)) (live_form first.Never) (λ spot. strict_end (body.Never spot))
-strict_form first.At = strict spot_of wanted.Place (λ spot. register (λ reg. range (λ ends. end (body.At spot reg ends.0 ends.1)))) (live_form first.At) strict_register
+strict_form first.At = strict spot_of wanted.Place (λ spot. register (λ reg. range (λ ends. end (body.At spot reg ends.0 ends.1))))
+    (live_form first.At) strict_register
 strict_form first.Jump = strict spot_of wanted.Place (aiming body.Jump) (live_form first.Jump) (strict_aiming body.Jump)
 strict_form first.Call = strict spot_of wanted.Place (aiming body.CallTo) (live_form first.Call) (strict_aiming body.CallTo)
-strict_form first.Loop = strict spot_of wanted.Place (counting body.Loop (codes "repeats") wanted.Repeats) (live_form first.Loop) (strict_counting body.Loop (codes "repeats") wanted.Repeats)
-strict_form first.Stub = strict spot_of wanted.Place (counting body.Stub (codes "time") wanted.Time) (live_form first.Stub) (strict_counting body.Stub (codes "time") wanted.Time)
+strict_form first.Loop = strict spot_of wanted.Place (counting body.Loop (codes "repeats") wanted.Repeats) (live_form first.Loop)
+    (strict_counting body.Loop (codes "repeats") wanted.Repeats)
+strict_form first.Stub = strict spot_of wanted.Place (counting body.Stub (codes "time") wanted.Time) (live_form first.Stub)
+    (strict_counting body.Stub (codes "time") wanted.Time)
 
 strict_statement : IsStrict statement
 strict_statement =
-    strict keyword_of wanted.Keyword form (live keyword_of wanted.Keyword form (codes "root") first.Root (keyword_found first.Root) (live_form first.Root)) strict_form
+    strict keyword_of wanted.Keyword form
+    (live keyword_of wanted.Keyword form (codes "root") first.Root (keyword_found first.Root) (live_form first.Root)) strict_form
 
 -- words of tokens, one after the other
 bare_both : (one other : List Token) → bare (one ++ other) ≡ bare one ++ bare other
@@ -279,14 +318,16 @@ begun : (earlier more : List Token) → IsTaken statement (earlier ++ more) → 
 begun earlier more t = record {
   more = bare more;
   body = t.value;
-  written = subst (λ (ws : List (List ℕ)). IsWritten ws t.value) (bare_both earlier more) ((statements_written (record { tokens = earlier ++ more; end = t.stop }) t.value).0 t.is);
+  written = subst (λ (ws : List (List ℕ)). IsWritten ws t.value) (bare_both earlier more)
+      ((statements_written (record { tokens = earlier ++ more; end = t.stop }) t.value).0 t.is);
 }
 
 -- words that write a statement are read
 taken : (tokens : List Token) (value : Body) → IsWritten (bare tokens) value → IsTaken statement tokens
 taken tokens value written = record { stop = 0; value = value; is = (statements_written (record { tokens = tokens; end = 0 }) value).1 written }
 
-taken_begun : (earlier : List Token) (token : Token) → (b : IsBegun (bare earlier ++ token.word ∷ [])) → IsTaken statement (earlier ++ token ∷ map as_token b.more)
+taken_begun : (earlier : List Token) (token : Token) → (b : IsBegun (bare earlier ++ token.word ∷ []))
+    → IsTaken statement (earlier ++ token ∷ map as_token b.more)
 taken_begun earlier token b =
     let words : bare (earlier ++ token ∷ map as_token b.more) ≡ (bare earlier ++ token.word ∷ []) ++ b.more =
     bare_both earlier (token ∷ map as_token b.more) ∙ ap (λ (ws : List (List ℕ)). bare earlier ++ token.word ∷ ws) (bare_tokens b.more)
@@ -299,5 +340,6 @@ refused_at phrase column (Refused.AtWord earlier token later more stands some st
 refused_at phrase column (Refused.AtEnd more some stuck at) =
     IsRefusedAt.Wanting (begun phrase.tokens more some) (λ value written. stuck (taken phrase.tokens value written)) at
 
+-- a refusal names the first word that doesn't fit
 pub misfits_first : MisfitsAreFirst
 misfits_first phrase column expected is = refused_at phrase column (strict_statement phrase.tokens phrase.end column expected is)

@@ -1,5 +1,6 @@
 -- Each line falls into its words.
-use Rattle.std.proofs.Common.{◌≡◌, ℕ, zero, suc, ◌+◌, ◌≤◌, inl, inr, true, false, List, [], ◌∷◌, ◌++◌, length, take, drop, All, refl, sym, ap, subst, ◌∙◌, arith}
+use Rattle.std.proofs.Common.{◌≡◌, ℕ, zero, suc, ◌+◌, ◌≤◌, inl, inr, true, false, List, [], ◌∷◌, ◌++◌, length, take, drop, All, refl, sym, ap, subst}
+use Rattle.std.proofs.Common.{◌∙◌, arith}
 use Rattle.std.proofs.lemmas.Bool.{cases_Bool, eqb-true}
 use Rattle.std.proofs.lemmas.List.{length-drop}
 use Rattle.std.proofs.lemmas.List.Elements.{All-cons, All-nil}
@@ -93,5 +94,6 @@ parted_by (suc n) column (x ∷ xs) few = elim (cases_Bool (is_blank x)) [
       (parted_by n (column + length word) rest (shorter n x xs few)))
 ]
 
+-- a line is parted into its words and blanks, and nothing else
 pub lines_parted : LinesAreParted
 lines_parted line = parted_by (length line) 1 line (omega arith)

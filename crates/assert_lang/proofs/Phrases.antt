@@ -23,7 +23,8 @@ left_le : (xs : List ℕ) → length (unblanked xs) ≤ length xs
 left_le xs = omega (arith, length-drop (position_or_len (λ b. not (is_blank b)) xs) xs)
 
 -- the blanks in front don't count, but for the columns
-pub after_blanks : (column k : ℕ) (line rest : List ℕ) → rest ≡ unblanked line → k + length rest ≡ length line → tokens_from column false line ≡ tokens_from (column + k) false rest
+pub after_blanks : (column k : ℕ) (line rest : List ℕ) → rest ≡ unblanked line → k + length rest ≡ length line
+    → tokens_from column false line ≡ tokens_from (column + k) false rest
 after_blanks column k [] rest is total = rw is refl
 after_blanks column k (x ∷ xs) rest is total = elim (cases_Bool (is_blank x)) [
   | inl blank ↦
@@ -72,6 +73,7 @@ rest_of_word column (y ∷ ys) = elim (cases_Bool (is_plain y)) [
       parted column y ys parts ∙ (λ i. tokens_from (n i) false (back i))
 ]
 
+-- the beginning of a list begins with its first
 pub take_one : (n x : ℕ) (xs : List ℕ) → take (1 + n) (x ∷ xs) ≡ x ∷ take n xs
 take_one n x xs = let more : 1 + n ≡ suc n = omega arith in rw more refl
 
@@ -79,11 +81,13 @@ take_one n x xs = let more : 1 + n ≡ suc n = omega arith in rw more refl
 pub head_plain : (x : ℕ) (xs : List ℕ) → is_comma x ≡ false → head_of (x ∷ xs) ≡ x ∷ take (more_of xs) xs
 head_plain x xs other = rw other refl
 
+-- a word is its first byte and the plain ones behind it
 pub head_plain_len : (x : ℕ) (xs : List ℕ) → is_comma x ≡ false → length (head_of (x ∷ xs)) ≡ 1 + more_of xs
 head_plain_len x xs other =
     let same : length (head_of (x ∷ xs)) ≡ length (x ∷ take (more_of xs) xs) = ap length (head_plain x xs other) in
     omega (arith, same, length-take (more_of xs) xs, position_le (λ c. not (is_plain c)) xs)
 
+-- a comma is a word of its own
 pub head_comma : (x : ℕ) (xs : List ℕ) → is_comma x ≡ true → head_of (x ∷ xs) ≡ x ∷ []
 head_comma x xs comma = rw comma refl
 
@@ -102,15 +106,18 @@ comma_parts : (x : ℕ) → is_comma x ≡ true → is_plain x ≡ false
 comma_parts x comma = rw (eqb-true x 44 comma) refl
 
 -- a comma in front of words, and a plain byte
-comma_first : (column x : ℕ) (xs : List ℕ) → is_comma x ≡ true → tokens_from column false (x ∷ xs) ≡ record { word = head_of (x ∷ xs); column = column } ∷ tokens_from (column + 1) false xs
+comma_first : (column x : ℕ) (xs : List ℕ) → is_comma x ≡ true
+    → tokens_from column false (x ∷ xs) ≡ record { word = head_of (x ∷ xs); column = column } ∷ tokens_from (column + 1) false xs
 comma_first column x xs comma = rw (comma_parts x comma, comma) refl
 
-plain_first : (column x : ℕ) (xs : List ℕ) → is_comma x ≡ false → is_plain x ≡ true → tokens_from column false (x ∷ xs) ≡ record { word = head_of (x ∷ xs); column = column } ∷ tokens_from (column + 1) true xs
+plain_first : (column x : ℕ) (xs : List ℕ) → is_comma x ≡ false → is_plain x ≡ true
+    → tokens_from column false (x ∷ xs) ≡ record { word = head_of (x ∷ xs); column = column } ∷ tokens_from (column + 1) true xs
 plain_first column x xs other plain = rw (plain, other) refl
 
 -- a word at the head of some bytes, and the words behind it
 pub word_first : (column x : ℕ) (xs : List ℕ) → is_blank x ≡ false
-    → tokens_from column false (x ∷ xs) ≡ record { word = head_of (x ∷ xs); column = column } ∷ tokens_from (column + length (head_of (x ∷ xs))) false (drop (length (head_of (x ∷ xs))) (x ∷ xs))
+    → tokens_from column false (x ∷ xs) ≡ record { word = head_of (x ∷ xs); column = column }
+    ∷ tokens_from (column + length (head_of (x ∷ xs))) false (drop (length (head_of (x ∷ xs))) (x ∷ xs))
 word_first column x xs lacks = elim (cases_Bool (is_comma x)) [
   | inl comma ↦
       let one : 1 ≡ length (head_of (x ∷ xs)) = sym (ap length (head_comma x xs comma)) in
@@ -126,8 +133,10 @@ word_first column x xs lacks = elim (cases_Bool (is_comma x)) [
 ]
 
 -- the first word of some bytes without the blanks in front, and the words behind it
-pub next_word : (column : ℕ) (bytes line word rest : List ℕ) (n : ℕ) → line ≡ unblanked bytes → length line ≢ 0 → n ≡ length (head_of line) → word ≡ take n line → rest ≡ drop n line → length line ≤ length bytes
-    → tokens_from column false bytes ≡ record { word = word; column = column + (length bytes - length line) } ∷ tokens_from (column + (length bytes - length line) + length word) false rest
+pub next_word : (column : ℕ) (bytes line word rest : List ℕ) (n : ℕ) → line ≡ unblanked bytes → length line ≢ 0 → n ≡ length (head_of line)
+    → word ≡ take n line → rest ≡ drop n line → length line ≤ length bytes
+    → tokens_from column false bytes ≡ record { word = word; column = column + (length bytes - length line) }
+    ∷ tokens_from (column + (length bytes - length line) + length word) false rest
 next_word column bytes [] word rest n is some len front back fewer = absurd (some refl)
 next_word column bytes (x ∷ xs) word rest n is some len front back fewer =
     let head : head_of (x ∷ xs) ≡ word = sym (front ∙ ap (λ (k : ℕ). take k (x ∷ xs)) len ∙ head_front x xs) in

@@ -18,6 +18,7 @@ behind spots (Ok more) = Ok (spots ++ more)
 abbrev pub left : Phrase → Result (List Spot) Fault
 left phrase = listed true phrase.end phrase.tokens
 
+-- what is left of a list of places behind one of them
 abbrev pub further : Phrase → Result (List Spot) Fault
 further phrase = listed false phrase.end phrase.tokens
 
@@ -43,32 +44,38 @@ taken fault (Some other) spot next rest is =
     let onward : next ≡ rest = ap (λ (p : Spot × Phrase). p.1) pair in
     one_in_front fault other (further next) ∙ (λ i. behind (same i ∷ []) (further (onward i)))
 
-first_taken : (tokens : List Token) (end : ℕ) (spot : Spot) (rest : Phrase) → first_as spot_of wanted.Place (record { tokens = tokens; end = end }) ≡ Ok (spot, rest)
+first_taken : (tokens : List Token) (end : ℕ) (spot : Spot) (rest : Phrase)
+    → first_as spot_of wanted.Place (record { tokens = tokens; end = end }) ≡ Ok (spot, rest)
     → listed true end tokens ≡ behind (spot ∷ []) (further rest)
 first_taken [] end spot rest is = cc
 first_taken (token ∷ tokens) end spot rest is =
     taken (Misfit token.column wanted.Place) (spot_of token.word) spot (record { tokens = tokens; end = end }) rest is
 
 -- one place more
-pub one_more : (all : Result (List Spot) Fault) (spots : List Spot) (words rest : Phrase) (spot : Spot) → all ≡ behind spots (left words) → first_as spot_of wanted.Place words ≡ Ok (spot, rest)
+pub one_more : (all : Result (List Spot) Fault) (spots : List Spot) (words rest : Phrase) (spot : Spot) → all ≡ behind spots (left words)
+    → first_as spot_of wanted.Place words ≡ Ok (spot, rest)
     → all ≡ behind (spots ++ spot ∷ []) (further rest)
 one_more all spots words rest spot so_far is =
     so_far ∙ ap (behind spots) (first_taken words.tokens words.end spot rest is) ∙ behind_both spots (spot ∷ []) (further rest)
 
 -- the fault of what comes next is that of the list
-pub fault_next : (all : Result (List Spot) Fault) (spots : List Spot) (fault : Fault) (next : Result (List Spot) Fault) → all ≡ behind spots next → IsFaultOf next fault → IsFaultOf all fault
+pub fault_next : (all : Result (List Spot) Fault) (spots : List Spot) (fault : Fault) (next : Result (List Spot) Fault) → all ≡ behind spots next
+    → IsFaultOf next fault → IsFaultOf all fault
 fault_next all spots Want next is fails = tt
 fault_next all spots (Misfit column expected) next is fails = is ∙ ap (behind spots) fails
 
+-- a list that is a fault has that fault
 pub is_fault : {A : Type 0} (defined : Result A Fault) (fault : Fault) → defined ≡ Err fault → IsFaultOf defined fault
 is_fault defined Want is = tt
 is_fault defined (Misfit column expected) is = is
 
-place_fault : (fault : Fault) (found : Option Spot) (next : Phrase) (why : Fault) → fitting fault next found ≡ Err why → in_front fault found (further next) ≡ Err why
+place_fault : (fault : Fault) (found : Option Spot) (next : Phrase) (why : Fault) → fitting fault next found ≡ Err why
+    → in_front fault found (further next) ≡ Err why
 place_fault fault None next why is = let same : fault ≡ why = cc in ap (λ (f : Fault). Err f) same
 place_fault fault (Some spot) next why is = cc
 
-first_fault : (tokens : List Token) (end : ℕ) (why : Fault) → first_as spot_of wanted.Place (record { tokens = tokens; end = end }) ≡ Err why → listed true end tokens ≡ Err why
+first_fault : (tokens : List Token) (end : ℕ) (why : Fault) → first_as spot_of wanted.Place (record { tokens = tokens; end = end }) ≡ Err why
+    → listed true end tokens ≡ Err why
 first_fault [] end why is = let same : Misfit end wanted.Place ≡ why = cc in ap (λ (f : Fault). Err f) same
 first_fault (token ∷ tokens) end why is = place_fault (Misfit token.column wanted.Place) (spot_of token.word) (record { tokens = tokens; end = end }) why is
 

@@ -36,7 +36,8 @@ pub record IsCounted (keyword link : List ℕ) (words : List (List ℕ)) (spot :
 -- one place, or a place, a comma and further places
 pub data IsListed : List (List ℕ) → List Spot → Type 0 where
   One : (word : List ℕ) (spot : Spot) → spot_of word ≡ Some spot → IsListed (word ∷ []) (spot ∷ [])
-  More : (word : List ℕ) (spot : Spot) (words : List (List ℕ)) (spots : List Spot) → spot_of word ≡ Some spot → IsListed words spots → IsListed (word ∷ codes "," ∷ words) (spot ∷ spots)
+  More : (word : List ℕ) (spot : Spot) (words : List (List ℕ)) (spots : List Spot) → spot_of word ≡ Some spot → IsListed words spots
+      → IsListed (word ∷ codes "," ∷ words) (spot ∷ spots)
 
 -- a keyword, a place, `to` and a list of places
 pub record IsAimed (keyword : List ℕ) (words : List (List ℕ)) (spot : Spot) (to : List Spot) : Type 0 where

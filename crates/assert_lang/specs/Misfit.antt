@@ -20,7 +20,8 @@ bare tokens = map (λ token. token.word) tokens
 -- a column is that of the first word that doesn't fit: some statement begins with the words before it, and none
 -- with it too; or it is past the line's end, where its words begin a statement and write none
 pub data IsRefusedAt (phrase : Phrase) (column : ℕ) : Type 0 where
-  Unfit : (earlier : List Token) (token : Token) (later : List Token) → phrase.tokens ≡ earlier ++ token ∷ later → IsBegun (bare earlier) → ¬ IsBegun (bare earlier ++ token.word ∷ []) → column ≡ token.column → IsRefusedAt phrase column
+  Unfit : (earlier : List Token) (token : Token) (later : List Token) → phrase.tokens ≡ earlier ++ token ∷ later → IsBegun (bare earlier)
+      → ¬ IsBegun (bare earlier ++ token.word ∷ []) → column ≡ token.column → IsRefusedAt phrase column
   Wanting : IsBegun (words_of phrase) → ((body : Body) → ¬ IsWritten (words_of phrase) body) → column ≡ phrase.end → IsRefusedAt phrase column
 
 -- a line that is no statement is refused at the first word that doesn't fit

@@ -12,7 +12,8 @@ pub data IsWord (word rest : List ℕ) : Type 0 where
 pub data AreParted : ℕ → List ℕ → List Token → Type 0 where
   Nothing : (column : ℕ) → AreParted column [] []
   Blank : (column b : ℕ) (rest : List ℕ) (tokens : List Token) → is_blank b ≡ true → AreParted (column + 1) rest tokens → AreParted column (b ∷ rest) tokens
-  Word : (column : ℕ) (bytes word rest : List ℕ) (tokens : List Token) → bytes ≡ word ++ rest → IsWord word rest → AreParted (column + length word) rest tokens → AreParted column bytes (record { word = word; column = column } ∷ tokens)
+  Word : (column : ℕ) (bytes word rest : List ℕ) (tokens : List Token) → bytes ≡ word ++ rest → IsWord word rest
+      → AreParted (column + length word) rest tokens → AreParted column bytes (record { word = word; column = column } ∷ tokens)
 
 -- each line falls into its words
 abbrev pub LinesAreParted : Type 0

@@ -47,7 +47,8 @@ given_most name limit [] given each = omega arith
 given_most name limit (ask ∷ before) given each = omega (arith, each.0.reach, each.0.within, each.0.sum)
 
 -- a reading that gave more than the limit gave one byte past it
-pub read_past : (name : List ℕ) (limit : ℕ) (old new : List Ask) (k : ℕ) → IsReadSoFar name limit old new k → limit < k → IsReadTo name limit old new (limit + 1)
+pub read_past : (name : List ℕ) (limit : ℕ) (old new : List Ask) (k : ℕ) → IsReadSoFar name limit old new k → limit < k
+    → IsReadTo name limit old new (limit + 1)
 read_past name limit old new k so_far past =
     let most = given_most name limit so_far.0.asks k so_far.0.each in
     let exact : k ≡ limit + 1 = omega arith in

@@ -13,5 +13,6 @@ digit_ascii n = grind arith
 pub hex8_ascii : (n : ℕ) → IsAscii (hex8_of n)
 hex8_ascii n = search (rules, IsAscii-cons, IsAscii-nil, digit_ascii)
 
+-- eight hexadecimal digits are UTF-8
 pub hex8_utf8 : (n : ℕ) → IsUtf8 (hex8_of n)
 hex8_utf8 n = IsUtf8-from_ascii (hex8_of n) (hex8_ascii n)

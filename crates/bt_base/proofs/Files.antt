@@ -28,6 +28,7 @@ gives_most bytes into at n room e s p f = record {
   end = (λ z. inl (omega arith), λ h. elim h [ inl a ↦ omega arith | inr b ↦ omega arith ]);
 }
 
+-- what was copied is the front of what is left of the file
 pub given_most : (told : Option (List ℕ)) (bytes into : List ℕ) (at n room : ℕ) → told ≡ Some bytes → n ≡ min room (length bytes - at) → length into ≡ room
     → (room == 0) ≡ false → take n into ≡ take n (drop at bytes) → IfSome told (λ b. Gives b at into n)
 given_most told bytes into at n room t e s z f =

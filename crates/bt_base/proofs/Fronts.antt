@@ -10,6 +10,7 @@ pub front_none : (told : Option (List ℕ)) (bytes : List ℕ) (k : ℕ) → byt
 front_none None bytes k b e = search rules
 front_none (Some t) bytes k b e = b ∙ ap (λ (i : ℕ). take i t) (sym e)
 
+-- nothing is within the file
 pub within_none : (told : Option (List ℕ)) (k : ℕ) → k ≡ 0 → IfSome told (λ t. k ≤ length t)
 within_none None k e = search rules
 within_none (Some t) k e = omega arith
@@ -22,6 +23,7 @@ front_more (Some t) again old new k m n e s f g =
     let h : new ≡ old ++ take n (drop k t) = rw e at g in
     h ∙ ap (λ (l : List ℕ). l ++ take n (drop k t)) f ∙ sym (take-add k n t) ∙ ap (λ (i : ℕ). take i t) (sym s)
 
+-- what was given behind what was read is within the file
 pub within_more : (told again : Option (List ℕ)) (old new : List ℕ) (k m n : ℕ) → again ≡ told → k ≡ length old → m ≡ length new → m ≡ k + n
     → IfSome told (λ t. k ≤ length t) → IfSome again (λ t. new ≡ old ++ take n (drop k t)) → IfSome told (λ t. m ≤ length t)
 within_more None again old new k m n e a b s f g = search rules

@@ -44,6 +44,7 @@ in_rest x xs w (suc k, within, is) above = (k, omega arith, is)
 pub first_there : (x : ℕ) (xs : List ℕ) → Contains (x ∷ xs) x
 first_there x xs = (0, omega arith, refl)
 
+-- what the rest contains the list contains
 pub rest_there : (x : ℕ) (xs : List ℕ) (w : ℕ) → Contains xs w → Contains (x ∷ xs) w
 rest_there x xs w (k, within, is) = (suc k, omega arith, is)
 

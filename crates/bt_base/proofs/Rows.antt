@@ -132,6 +132,7 @@ row_graph graph from to row l t g up h = record {
 pub row_at : (rows : List (Vec ℕ Global)) (n : ℕ) (v : Vec ℕ Global) → n < length rows → v ≡ get_or rows n v → get_or (rows_of rows) n [] ≡ v.items
 row_at rows n v l e = get_or-map (λ (w : Vec ℕ Global). w.items) rows n v [] l ∙ ap (λ (w : Vec ℕ Global). w.items) (sym e)
 
+-- each row of a graph rises
 pub row_rises : (graph : List (List ℕ)) (n : ℕ) (row : List ℕ) → get_or graph n [] ≡ row → IsGraph graph → IsStrictlyIncreasing row
 row_rises graph n row e g = subst IsStrictlyIncreasing e (g.rising n)
 
@@ -140,6 +141,7 @@ rows_set : (rows : List (Vec ℕ Global)) (n : ℕ) (w : Vec ℕ Global) → row
 rows_set rows n w = map-set (λ (v : Vec ℕ Global). v.items) rows n w
 
 module _ (rows : List (Vec ℕ Global)) (from to : ℕ) (v w : Vec ℕ Global) (l : from < length rows) (e : v ≡ get_or rows from v) where
+  -- the edges are those of before and the new one
   pub edges_after : {E : Type 0} (r : Result (Unit {0}) E) → OnOk r ((m : ℕ) → has w.items m ≡ (has v.items m || (m == to)))
       → OnOk r ((n m : ℕ) → is_edge (rows_of (set rows from w)) n m ≡ is_edge_with (rows_of rows) from to n m)
   edges_after (Ok u) h = λ n m.
@@ -148,6 +150,7 @@ module _ (rows : List (Vec ℕ Global)) (from to : ℕ) (v w : Vec ℕ Global) (
       ∙ row_edges (rows_of rows) from to w.items (omega arith) (λ k. h k ∙ ap (λ x. has x k || (k == to)) (sym (row_at rows from v l e))) n m
   edges_after (Err x) h = tt
 
+  -- a graph with an edge more is one
   pub graph_after : to < length rows → IsGraph (rows_of rows) → IsStrictlyIncreasing w.items
       → ((m : ℕ) → has w.items m ≡ true → (has v.items m || (m == to)) ≡ true) → IsGraph (rows_of (set rows from w))
   graph_after t g up h =
@@ -155,6 +158,7 @@ module _ (rows : List (Vec ℕ Global)) (from to : ℕ) (v w : Vec ℕ Global) (
       subst IsGraph (sym (rows_set rows from w))
       (row_graph (rows_of rows) from to w.items (omega arith) (omega arith) g up (λ k p. ap (λ x. has x k || (k == to)) (row_at rows from v l e) ∙ h k p))
 
+  -- a row that stays leaves the graph
   pub same_after : {X E : Type 0} (r : Result X E) → OnErr r (w.items ≡ v.items) → OnErr r (rows_of (set rows from w) ≡ rows_of rows)
   same_after (Ok x) h = tt
   same_after (Err x) h =

@@ -25,9 +25,11 @@ use Rattle.bt_image.specs.declared.entry.Entry.{Entry}
 order_total : (strings : List ℕ) → IsTotalOrder (order strings)
 order_total strings = then_total (on_total (text strings) nat_list_cmp_total) (on_total (λ (e : Entry). e.address) nat_cmp_total)
 
+-- the order of entries is a strict weak one
 pub order_weak : (strings : List ℕ) → IsStrictWeakOrder (λ x y. is_lt (order strings x y))
 order_weak strings = ranks_by (order_total strings) (λ (e : Entry). e)
 
+-- entries sorted one by one are in order however far apart
 pub order_far : (strings : List ℕ) (entries : List Entry) → IsSortedBy (λ x y. is_lt (order strings x y)) entries → AreInOrder strings entries
 order_far strings entries sorted = λ i j d le lt. sorted_far _ (order_weak strings) entries sorted i j d le lt
 
@@ -182,6 +184,7 @@ place_of file name entries k y d are lt h =
       ap (λ (e : Entry). e.address) at ∙ p.2,
     )
 
+-- an entry that stands for none
 abbrev pub no_entry : Entry
 no_entry = record { name = 0; address = 0 }
 
@@ -248,6 +251,7 @@ none_entered file entries none = subst (AreEntries file 0) (sym none)
 later : (file : List ℕ) (n : ℕ) (e : Entry) → IsEntry file n e → IsEntry file (n + 1) e
 later file n e is = record { symbol = is.symbol; within = (let h = is.within in omega arith); function = is.function; is = is.is }
 
+-- a function symbol more is entered
 pub one_entered : (file : List ℕ) (entries new : List Entry) (n : ℕ) (e : Entry) → is_function_symbol file n ≡ true
     → entry_from (symbol_at file n) ≡ e → new ≡ entries ++ e ∷ []
     → AreEntries file n entries → AreEntries file (n + 1) new
@@ -263,6 +267,7 @@ one_entered file entries new n e function same is are = subst (AreEntries file (
       (cases_lt k n);
 })
 
+-- a symbol that is no function enters nothing
 pub none_more : (file : List ℕ) (entries : List Entry) (n : ℕ) → is_function_symbol file n ≡ false → AreEntries file n entries → AreEntries file (n + 1) entries
 none_more file entries n out are = record {
   each = λ x c. later file n x (are.each x c);

@@ -36,10 +36,12 @@ and_second : (b c : Bool) → (b && c) ≡ true → c ≡ true
 and_second true c h = h
 and_second false c h = absurd (false≢true h)
 
+-- an address of code is in a section of code
 pub code_held : (file : List ℕ) (a : ℕ) → is_code file a ≡ true → is_some (holder is_code_section file a 4) ≡ true
 unfolding held
 code_held file a h = is_some_map _ (holder is_code_section file a 4) (and_second (a % 4 == 0) _ h)
 
+-- the section that is found for an address of code has it
 pub code_holder : (file : List ℕ) (a : ℕ) (items : List Section) (found : Option Section) → AreLoaded file (section_count file) items → IsHolder items a 4 found
     → is_code file a ≡ true → (s : Section) × (found ≡ Some s) × (holder is_code_section file a 4 ≡ Some s) × (s.address ≤ a) × (a + 4 ≤ s.address + s.size)
 code_holder file a items None table h code =

@@ -32,24 +32,29 @@ refusal_is : (a : Option ImageRefusal) (e : ImageRefusal) → a ≡ Some e → I
 refusal_is a Want h = tt
 refusal_is a e h = h
 
+-- a failed check of headers and sections is the first refusal
 pub refused_checked : (file : List ℕ) (e : ImageRefusal) → checked_refusal file ≡ Some e → IsRefusal (first_refusal file) e
 unfolding first_refusal
 refused_checked file e h = refusal_or (checked_refusal file) _ e (refusal_is _ e h)
 
+-- an overlap is the first refusal where no check before it fails
 pub refused_overlap : (file : List ℕ) (e : ImageRefusal) → checked_refusal file ≡ None → IsRefusal (overlap_refusal file) e → IsRefusal (first_refusal file) e
 unfolding first_refusal
 refused_overlap file e c h = refusal_after _ _ e c (refusal_or (overlap_refusal file) _ e h)
 
+-- a refused symbol table is the first refusal where nothing before it is
 pub refused_symbols : (file : List ℕ) (e : ImageRefusal) → checked_refusal file ≡ None → overlap_refusal file ≡ None → symbols_refusal file ≡ Some e
     → IsRefusal (first_refusal file) e
 unfolding first_refusal
 refused_symbols file e c o h = refusal_after _ _ e c (refusal_after _ _ e o (refusal_or (symbols_refusal file) _ e (refusal_is _ e h)))
 
+-- a passed limit is the first refusal where nothing before it is
 pub refused_limits : (file : List ℕ) (e : ImageRefusal) → checked_refusal file ≡ None → overlap_refusal file ≡ None → symbols_refusal file ≡ None
     → IsRefusal (limits_refusal file) e → IsRefusal (first_refusal file) e
 unfolding first_refusal
 refused_limits file e c o s h = refusal_after _ _ e c (refusal_after _ _ e o (refusal_after _ _ e s h))
 
+-- a file that no check refuses has no refusal
 pub refused_none : (file : List ℕ) → checked_refusal file ≡ None → overlap_refusal file ≡ None → symbols_refusal file ≡ None
     → limits_refusal file ≡ None → first_refusal file ≡ None
 unfolding first_refusal

@@ -63,6 +63,7 @@ each_within file labels found low high are each = λ k d lt.
     let p = each k d lt in
     record { label = All-contains (IsLabel file) labels (get_or found k d) are.each p.0; above = p.1; below = p.2 }
 
+-- each label within the ends is found
 pub all_within : (file labels found : List ℕ) (low high : ℕ) → AreExactly (IsLabel file) labels
     → ((a : ℕ) → Contains labels a → low ≤ a → a < high → Contains found a) → (a : ℕ) → IsLabelWithin file low high a → Contains found a
 all_within file labels found low high are all a within = all a (are.all a within.label) within.above within.below

@@ -12,6 +12,7 @@ first_of-more f n = rw add-one refl
 pub below_or_at : (k n : ℕ) → k < suc n → (k < n) ⊎ (k ≡ n)
 below_or_at k n h = ⊎_elim (λ lt. inl lt) (λ ge. inr (omega arith)) (cases_lt k n)
 
+-- where neither of two is there, none of both is
 pub or_none : {X : Type 0} (a b : Option X) → option_or a b ≡ None → (a ≡ None) × (b ≡ None)
 or_none None b h = (refl, h)
 or_none (Some x) b h = cc

@@ -17,6 +17,7 @@ length-functions : (file strings : List ℕ) (names : BTreeMap ℕ Name) → Are
 unfolding functions
 length-functions file strings names are = ap length (sym are.keys) ∙ length-map names.entries (λ (e : ℕ × Name). e.0)
 
+-- so many functions pass the limit
 pub limits-many : (file strings : List ℕ) (names : BTreeMap ℕ Name) (count : ℕ) → AreNames file strings (symbol_count file) names → count ≡ btree_map_len names
     → symbol_count file ≤ 262144 → 16384 < count → limits_refusal file ≡ Some (Limit Functions count)
 unfolding limits_refusal
@@ -26,6 +27,7 @@ limits-many file strings names count are is few many =
     let b : nat_lt 16384 count ≡ true = grind (arith, nat_tests) in
     rw (a, e, b) refl
 
+-- so few functions pass no limit
 pub limits-few : (file strings : List ℕ) (names : BTreeMap ℕ Name) (count : ℕ) → AreNames file strings (symbol_count file) names → count ≡ btree_map_len names
     → symbol_count file ≤ 262144 → count ≤ 16384 → limits_refusal file ≡ None
 unfolding limits_refusal

@@ -128,6 +128,7 @@ and_first : (b c : Bool) → (b && c) ≡ true → b ≡ true
 and_first true c h = refl
 and_first false c h = h
 
+-- a section that passes a test of an access is loaded
 pub asks_loaded : (access : Access) (s : Section) → test_of access s ≡ true → is_loaded s ≡ true
 asks_loaded Loaded s h = h
 asks_loaded ReadOnly s h = and_first (is_loaded s) (is_executable s || not (is_writable s)) h
@@ -145,12 +146,14 @@ unfolding held
 held_is access file a n items found some table h =
     ap (option_map (bytes_in file a n)) (holder_is (test_of access) file a n items found some (asks_loaded access) table h)
 
+-- bytes are held where the section that has them passes the test
 pub held_passing : (access : Access) (file : List ℕ) (a n : ℕ) (items : List Section) (s : Section) → 0 < n
     → AreLoaded file (section_count file) items → IsHolder items a n (Some s) → test_of access s ≡ true
     → held (test_of access) file a n ≡ Some (bytes_in file a n s)
 held_passing access file a n items s some table h test =
     held_is access file a n items (Some s) some table h ∙ rw test refl
 
+-- bytes aren't held where the section that has them fails the test
 pub held_failing : (access : Access) (file : List ℕ) (a n : ℕ) (items : List Section) (s : Section) → 0 < n
     → AreLoaded file (section_count file) items → IsHolder items a n (Some s) → test_of access s ≡ false
     → held (test_of access) file a n ≡ None

@@ -169,10 +169,12 @@ pub cond_none : {X : Type 0} (b : Bool) (x : X) (o : Option X) → cond b (Some 
 cond_none true x o h = absurd cc
 cond_none false x o h = (refl, h)
 
+-- both tests fail where neither holds
 pub or_false : (b c : Bool) → (b || c) ≡ false → (b ≡ false) × (c ≡ false)
 or_false true c h = absurd (false≢true (sym h))
 or_false false c h = (refl, h)
 
+-- the second test fails where both together do and the first holds
 pub and_false : (b c : Bool) → (b && c) ≡ false → b ≡ true → c ≡ false
 and_false true c h e = h
 and_false false c h e = absurd (false≢true e)
@@ -283,6 +285,7 @@ apart_from_place items place s t fits c =
     (λ ge. let h = fits.behind c.0 t ge c.1 in grind (arith, nat_tests))
     (cases_lt c.0 place)
 
+-- no two of the first sections that are loaded share an address
 abbrev pub AreClear : List ℕ → ℕ → Type 0
 AreClear file n = (a b : ℕ) → b < n → overlap file a b ≡ None
 
@@ -309,6 +312,7 @@ clear_added file n place items table fits clear = λ a b lt. ⊎_elim
     by a less true e = overlap_from_share file a n e (apart_from_place items place (section_at file n) (section_at file a) fits (table.all a less e))
     by a less false e = overlap_from_first file a n e
 
+-- sections that share no address are no overlap
 pub overlap-none : (file : List ℕ) → AreClear file (section_count file) → overlap_refusal file ≡ None
 unfolding overlap_refusal
 overlap-none file clear =
@@ -354,12 +358,14 @@ step_added file n place items held new s sound lt loaded is same fits put table 
       clear_added file n place items table here clear,
     )
 
+-- a section that isn't loaded is skipped
 pub step_skipped : (file : List ℕ) (n : ℕ) (items new : List Section) (s : Section) → is_loaded s ≡ false → s ≡ section_at file n → new ≡ items
     → AreLoaded file n items → AreClear file n → AreLoaded file (n + 1) new × AreClear file (n + 1)
 step_skipped file n items new s out is same table clear =
     let o : is_loaded (section_at file n) ≡ false = ap is_loaded (sym is) ∙ out in
     (subst (AreLoaded file (n + 1)) (sym same) (loaded_skipped file n items table o), clear_skipped file n clear o)
 
+-- a section that shares an address with one before is the first overlap
 pub step_refused : (file : List ℕ) (n : ℕ) (items held : List Section) (s : Section) → n < section_count file → is_loaded s ≡ true → s ≡ section_at file n
     → held ≡ items → SharesWith held s → AreLoaded file n items → IsSome (overlap_refusal file)
 step_refused file n items held s lt loaded is same shares table =

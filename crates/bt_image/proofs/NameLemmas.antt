@@ -30,6 +30,7 @@ keys-insert (e ∷ es) k v =
     (cases_eq k e.0))
     (cases_lt k e.0)
 
+-- other numbers are at other keys
 pub apart_keys : (k q : ℕ) → q ≢ k → is_at (nat_cmp k) q ≡ false
 apart_keys k q ne =
     ⊎_elim

@@ -109,6 +109,7 @@ none_reaches items place end e apart le some last = λ k d lt.
     subst (λ (i : ℕ). (get_or items i d).address + (get_or items i d).size < end) (sym eq) (omega arith))
     (cases_lt k (place - 1))
 
+-- the last section before a place reaches to the end
 pub last_reaches : (items : List Section) (place end : ℕ) (e : Section) → place ≤ length items → 0 < place
     → end ≤ (get_or items (place - 1) e).address + (get_or items (place - 1) e).size → LastReaches items place end
 last_reaches items place end e le some last = (
@@ -182,9 +183,11 @@ both_true : (b c : Bool) → (b && c) ≡ true → (b ≡ true) × (c ≡ true)
 both_true true c h = (refl, h)
 both_true false c h = absurd (false≢true h)
 
+-- a section in the table has code and a word
 pub word_yes : (s : Section) (b : Bool) → b ≡ (is_code_section s && nat_le 4 s.size) → b ≡ true → (is_code_section s ≡ true) × (4 ≤ s.size)
 word_yes s b e h = let p = both_true (is_code_section s) _ (sym e ∙ h) in let q = p.1 in (p.0, grind (arith, nat_tests))
 
+-- a section that isn't in the table has no word of code
 pub word_no : (s : Section) (b : Bool) → b ≡ (is_code_section s && nat_le 4 s.size) → b ≡ false → is_code_section s ≡ true → 4 ≤ s.size → ⊥
 word_no s b e h code big =
     let t : nat_le 4 s.size ≡ true = grind (arith, nat_tests) in
@@ -264,6 +267,7 @@ next_code_from file loaded items a x table code next = record {
     is : is_code file x ≡ true
     is = let m : (x % 4 == 0) ≡ true = eq-eqb _ 0 next.aligned in rw (m, held_here) refl
 
+-- where the table of code has no word from an address on, the image has none
 pub no_code_from : (file : List ℕ) (loaded items : List Section) (a : ℕ) → AreLoaded file (section_count file) loaded → IsCodeTable loaded (length loaded) items
     → HasNoWordFrom items a → HasNoCodeFrom file a
 no_code_from file loaded items a table code none = λ y ay. none_code file loaded items y table code (λ m. none y ay m)

@@ -11,6 +11,7 @@ use Rattle.std.proofs.lemmas.Map.Keys.{below_from_sorted, sorted_from_strictly_i
 use Rattle.bt_image.specs.Extent.{Rise}
 use Rattle.bt_image.specs.Values.{AreShared}
 
+-- numbers that rise step by step rise
 pub rise_from_steps : (xs : List ℕ) → IsStrictlyIncreasing xs → Rise xs
 rise_from_steps xs steps = λ i j lt jlt. below_from_sorted xs i j 0 (sorted_from_strictly_increasing xs steps) lt jlt
 
@@ -29,6 +30,7 @@ part_rises from n xs part is le rise = subst Rise (sym is) (λ i j lt jlt.
     let b = part_at from n xs j 0 (omega arith) in
     let h = rise (from + i) (from + j) (omega arith) (omega arith) in omega arith)
 
+-- each number of a part is between the ends
 pub part_each : (from n low high : ℕ) (xs part : List ℕ) → part ≡ take n (drop from xs) → from + n ≤ length xs
     → ((k : ℕ) → from ≤ k → k < length xs → low ≤ get_or xs k 0) → ((k : ℕ) → k < from + n → get_or xs k 0 < high)
     → All (λ a. Contains xs a × (low ≤ a) × (a < high)) part
@@ -41,6 +43,7 @@ part_each from n low high xs part is le above below =
     let q = below (from + k) (omega arith) in
     (subst (Contains xs) (sym a) (Contains-get_or xs (from + k) d (omega arith)), omega arith, omega arith))
 
+-- each number between the ends is in the part
 pub part_all : (from n low high : ℕ) (xs part : List ℕ) → part ≡ take n (drop from xs) → from + n ≤ length xs
     → ((k : ℕ) → k < from → get_or xs k 0 < low) → ((k : ℕ) → from + n ≤ k → k < length xs → high ≤ get_or xs k 0)
     → (a : ℕ) → Contains xs a → low ≤ a → a < high → Contains part a
@@ -80,6 +83,7 @@ rise_push xs x rise above = λ i j lt jlt.
     (λ ge. let e : length xs ≡ j = omega arith in let b = get_or_push xs x 0 j e in let h = above i (omega arith) in omega arith)
     (cases_lt j (length xs))
 
+-- a number that the others have is added
 pub shared_added : (xs ys found new : List ℕ) (i : ℕ) → Rise xs → i < length xs → Contains ys (get_or xs i 0) → new ≡ found ++ get_or xs i 0 ∷ []
     → AreShared xs ys i found → AreShared xs ys (i + 1) new
 shared_added xs ys found new i rise lt has is are = subst (AreShared xs ys (i + 1)) (sym is) (record {
@@ -102,6 +106,7 @@ shared_added xs ys found new i rise lt has is are = subst (AreShared xs ys (i + 
     x : ℕ
     x = get_or xs i 0
 
+-- a number that the others lack is skipped
 pub shared_skipped : (xs ys found : List ℕ) (i : ℕ) → (Contains ys (get_or xs i 0) → ⊥) → AreShared xs ys i found → AreShared xs ys (i + 1) found
 shared_skipped xs ys found i out are = record {
   rise = are.rise;
@@ -121,6 +126,7 @@ never_falls xs rise i j le lt =
     (λ ge. let e : i ≡ j = omega arith in subst (λ (k : ℕ). get_or xs i 0 ≤ get_or xs k 0) e (omega arith))
     (cases_lt i j)
 
+-- a search decides what rising numbers contain
 pub search_decides : (xs : List ℕ) (x : ℕ) (r : Result ℕ ℕ) → Rise xs → IsBinarySearchResult (λ y. nat_cmp y x) xs r → (is_ok r ≡ true) ↔ Contains xs x
 search_decides xs x (Ok i) rise result =
     let at : (i < length xs) × (get_or xs i 0 ≡ x) = searched xs x (Ok i) result (never_falls xs rise) in

@@ -61,6 +61,7 @@ sound_from_none : {X : Type 0} (b : Bool) (x : X) → cond b None (Some x) ≡ N
 sound_from_none true x h = refl
 sound_from_none false x h = absurd cc
 
+-- both tests hold where both together do
 pub and_both : (b c : Bool) → (b && c) ≡ true → (b ≡ true) × (c ≡ true)
 and_both true c h = (refl, h)
 and_both false c h = absurd (false≢true h)

@@ -41,6 +41,7 @@ seen_more file at marks old new seen keeps here = λ k lt is code.
     (λ ne. keeps (value_at file k) (seen k (omega arith) (sym (get_or-set_other marks at k true false ne) ∙ is) code))
     (cases_eq k at)
 
+-- a word that is an address of code is noted
 pub noted_code : (file : List ℕ) (at : ℕ) (marks : List Bool) (old new : List ℕ) → length marks ≡ length file → AreSeen file marks old
     → is_code file (value_at file at) ≡ true → new ≡ old ++ value_at file at ∷ [] → IsNoted file at (set marks at true) old new
 noted_code file at marks old new long seen code is = subst (IsNoted file at (set marks at true) old) (sym is) (record {

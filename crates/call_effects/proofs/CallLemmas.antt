@@ -1,5 +1,6 @@
 -- What a call may write: the caller's cells that are cells of the callee's mask.
-use Rattle.std.proofs.Common.{◌≡◌, ◌≢◌, ℕ, zero, suc, ◌+◌, ◌-◌, ◌*◌, ◌/◌, ◌%◌, ◌^◌, ◌<◌, ◌≤◌, ◌⊎◌, inl, inr, Bool, true, false, Option, Some, None, refl, sym, ap, subst, ◌∙◌, arith}
+use Rattle.std.proofs.Common.{◌≡◌, ◌≢◌, ℕ, zero, suc, ◌+◌, ◌-◌, ◌*◌, ◌/◌, ◌%◌, ◌^◌, ◌<◌, ◌≤◌, ◌⊎◌, inl, inr, Bool, true, false, Option, Some, None}
+use Rattle.std.proofs.Common.{refl, sym, ap, subst, ◌∙◌, arith}
 use Rattle.std.specs.Prelude.{◌==◌, nat_lt, if◌then◌else◌}
 use Rattle.std.specs.Int.{bit_at}
 use Rattle.std.proofs.lemmas.Bool.{cases_lt}
@@ -180,6 +181,7 @@ same_cell c =
       | inr high ↦ (let t : nat_lt c 32 ≡ false = grind (arith, nat_tests) in rw t refl)
     ]
 
+-- a caller's cell may be written exactly where it stands for a cell that the callee may write
 pub calls_write_what_stands : CallsWriteWhatStands
 calls_write_what_stands m zero k = (
   λ has. record { cell = k; has = has; is = same_cell k },
@@ -193,6 +195,7 @@ calls_write_what_stands m (suc d) k = (
   λ here. subst (λ (x : ℕ). has_cell x k ≡ true) (sym (after-deep m d)) (has_by (moved m) k (stands_moved m d k here)),
 )
 
+-- a callee that may write more may write more of its caller
 pub larger_masks_write_more : LargerMasksWriteMore
 larger_masks_write_more a b depth within =
     within_by (after_call a depth) (after_call b depth)
@@ -204,6 +207,7 @@ mask-moved : (mask : ℕ) → IsMask mask → IsMask (moved mask)
 unfolding moved
 mask-moved mask is = record { below = omega arith; even = (let e = is.even in omega arith) }
 
+-- what is made of masks is one
 pub masks_stay_masks : MasksStayMasks
 masks_stay_masks = record { none = mask_none; with_one = mask-with; union = mask-union; after_call = after } where
   after : (mask depth : ℕ) → IsMask mask → IsMask (after_call mask depth)

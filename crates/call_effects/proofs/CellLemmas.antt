@@ -15,6 +15,7 @@ pub data Stands (depth r : ℕ) : Type 0 where
 pub positive : (d : ℕ) → (suc d == 0) ≡ false
 positive d = let e : suc d ≡ 0 → ⊥ = omega arith in grind (arith, nat_tests)
 
+-- where a register of a depth stands among the cells
 pub stands : (depth r : ℕ) → Stands depth r
 stands zero r = Same refl (inl refl)
 stands (suc d) r =
@@ -61,6 +62,7 @@ apart depth r s low high (Shared e a) (Same f (inr v)) same = omega arith
 apart depth r s low high (Shared e a) (Below f c d) same = omega arith
 apart depth r s low high (Shared e a) (Shared f c) same = omega arith
 
+-- registers of one window have cells of their own
 pub cells_tell_registers_apart : CellsTellRegistersApart
 cells_tell_registers_apart =
     record {

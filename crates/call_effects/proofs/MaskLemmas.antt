@@ -1,5 +1,6 @@
 -- Masks as sets: what their bits say of which cells they have.
-use Rattle.std.proofs.Common.{◌≡◌, ◌≢◌, ℕ, zero, suc, ◌+◌, ◌^◌, ◌%◌, ◌<◌, ◌≤◌, max, ◌⊎◌, inl, inr, ◌||◌, Bool, true, false, refl, sym, ap, subst, ◌∙◌, arith, eq-eqb}
+use Rattle.std.proofs.Common.{◌≡◌, ◌≢◌, ℕ, zero, suc, ◌+◌, ◌^◌, ◌%◌, ◌<◌, ◌≤◌, max, ◌⊎◌, inl, inr, ◌||◌, Bool, true, false, refl, sym, ap, subst, ◌∙◌}
+use Rattle.std.proofs.Common.{arith, eq-eqb}
 use Rattle.std.specs.Prelude.{◌==◌, bit_or, nat_lt}
 use Rattle.std.specs.Int.{bit_at}
 use Rattle.std.proofs.lemmas.Bool.{and_from, and_parts, cases_eq, cases_lt, eqb-true, lt-ltb, ltb-true}
@@ -31,6 +32,7 @@ bit n k =
 pub bit_of : (mask k : ℕ) → has_cell mask k ≡ true → bit_at mask k ≡ 1
 bit_of mask k has = eqb-true (bit_at mask k) 1 has
 
+-- a cell whose bit is set is in the mask
 pub has_by : (mask k : ℕ) → bit_at mask k ≡ 1 → has_cell mask k ≡ true
 has_by mask k one = eq-eqb (bit_at mask k) 1 one
 
@@ -50,6 +52,7 @@ has-pow c k =
       | inr other ↦ (let none = bit_at-pow_other c k other in let differ : (k == c) ≡ false = grind (arith, nat_tests) in rw (none, differ) refl)
     ]
 
+-- a mask with a cell has that and its own
 pub has-with : (mask c k : ℕ) → has_cell (with_cell mask c) k ≡ (has_cell mask k || (k == c))
 has-with mask c k = has-union mask (2 ^ c) k ∙ ap (λ (b : Bool). has_cell mask k || b) (has-pow c k)
 
@@ -108,6 +111,7 @@ mask_cells mask c is has = (above c has, below) where
 pub mask_none : IsMask 0
 mask_none = record { below = omega arith; even = refl }
 
+-- the cells of both masks are a mask
 pub mask-union : (a b : ℕ) → IsMask a → IsMask b → IsMask (union a b)
 mask-union a b left right =
     record {
@@ -121,6 +125,7 @@ mask-pow c above below = record { below = pow_below c 48 below; even = even c ab
   even zero low = absurd (omega arith)
   even (suc k) low = omega arith
 
+-- a mask with a cell more is one
 pub mask-with : (mask c : ℕ) → IsMask mask → 1 ≤ c → c < 48 → IsMask (with_cell mask c)
 mask-with mask c is above below = mask-union mask (2 ^ c) is (mask-pow c above below)
 

@@ -75,17 +75,21 @@ pub record IsUp (a b : Summary) : Type 0 where
   pub skips : implies a.skips b.skips ≡ true
   pub written : is_within a.written b.written ≡ true
 
+-- an ordered summary is ordered part by part
 pub up_parts : (a b : Summary) → is_at_most a b ≡ true → IsUp a b
 up_parts a b up =
     let outer = and_parts (implies a.returns b.returns && implies a.skips b.skips) (is_within a.written b.written) up in
     let flags = and_parts (implies a.returns b.returns) (implies a.skips b.skips) outer.0 in
     record { returns = flags.0; skips = flags.1; written = outer.1 }
 
+-- a summary that is ordered part by part is ordered
 pub from_up : (a b : Summary) → IsUp a b → is_at_most a b ≡ true
 from_up a b is =
     and_from (implies a.returns b.returns && implies a.skips b.skips) (is_within a.written b.written)
     (and_from (implies a.returns b.returns) (implies a.skips b.skips) is.returns is.skips) is.written
 
+-- each summary is at most itself, the order goes on from one to the next, and two summaries that are at most each other
+-- are the same
 pub summaries_are_ordered : SummariesAreOrdered
 summaries_are_ordered = record { same = same; onward = onward; both = both } where
   same : (a : Summary) → is_at_most a a ≡ true
@@ -111,6 +115,7 @@ summaries_are_ordered = record { same = same; onward = onward; both = both } whe
       let written : a.written ≡ b.written = within_both a.written b.written x.written y.written in
       λ i. record { returns = returns i; skips = skips i; written = written i }
 
+-- what two summaries say together is the least that is at least both
 pub summaries_are_joined : SummariesAreJoined
 summaries_are_joined = record { first = first; second = second; least = least } where
   first : (a b : Summary) → is_at_most a (joined a b) ≡ true

@@ -103,6 +103,7 @@ step_to : (calls : ℕ → ℕ → Bool) (n m : ℕ) (between : List ℕ) → Is
 step_to calls n m [] w = (m, w.0, inl refl)
 step_to calls n m (k ∷ between) w = (k, w.0, inr (record { between = between; walk = w.1 }))
 
+-- what reaches a call cycle calls something that does
 pub cycle_from_callee : (calls : ℕ → ℕ → Bool) (n : ℕ) → ReachesCycle calls n → CallsOne calls n
 cycle_from_callee calls n r = elim r.there [
   | inl e ↦
@@ -124,6 +125,7 @@ no_round calls follows f n (m ∷ between) w = f.apart n m w.0 (reaches_more fol
 followed_away : (calls follows : ℕ → ℕ → Bool) → AreFollowed calls follows → (n : ℕ) → ReachesCycle follows n → ⊥
 followed_away calls follows f n r = no_round calls follows f r.member r.round.between r.round.walk
 
+-- calls that are followed only out of call cycles lead to no cycle, and each chain of them ends
 pub followed_end : FollowedCallsEnd
 followed_end calls follows count f below = record {
   away = followed_away calls follows f;

@@ -10,6 +10,7 @@ pub needed_least : {K : Type 0} (roots : List K) (asks : K → List K) (Has : K 
 needed_least roots asks Has at_root on k (root c) = at_root k c
 needed_least roots asks Has at_root on k (asked {k = j} n c) = on j k (needed_least roots asks Has at_root on j n) c
 
+-- what has the roots and all that its members ask for has all that is needed
 pub are_least : NeededAreLeast
 are_least roots asks has at_root on k n = needed_least roots asks (λ (x : ℕ). has x ≡ true) at_root on k n
 
@@ -19,5 +20,6 @@ pub found_exactly : {K : Type 0} (roots : List K) (asks : K → List K) (found :
 found_exactly roots asks found f k =
     ((λ c. All-contains (IsNeeded roots asks) found k f.needed c), (λ n. needed_least roots asks (Contains found) f.begun f.asked k n))
 
+-- a list of needed ones that has the roots and all that its members ask for has exactly what is needed
 pub found_needed : FoundAreTheNeeded
 found_needed roots asks found f k = found_exactly roots asks found f k

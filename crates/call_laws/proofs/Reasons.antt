@@ -24,6 +24,7 @@ given_from : (causes : Causes) → EachCallGives causes → (c m : ℕ) → Lead
 given_from causes each c m (inl e) u = subst (IsUnbounded causes) (sym e) u
 given_from causes each c m (inr r) u = given_along causes each c m r.between r.walk u
 
+-- a context has a reason exactly where it leads to one that has a reason of its own
 pub reach_reason : UnboundedReachAReason
 reach_reason causes each c = (
   (λ u. reaches_own causes c u.reason u.is),
@@ -39,6 +40,7 @@ none_from : (causes : Causes) (c r : ℕ) → ((q : ℕ) → causes.own c q ≡ 
 none_from causes c r o b (own e) = let f : causes.own c r ≡ false = o r in cc
 none_from causes c r o b (callee {d = d} {q = q} e g i) = b d e (record { reason = q; is = i })
 
+-- a context has no reason exactly where it has none of its own and each context that it calls has none
 pub bounded_call : BoundedCallTheBounded
 bounded_call causes each c = (
   (λ none. ((λ r. not_true (causes.own c r) (λ e. none (record { reason = r; is = own e }))), (λ d e u. none (gives_one causes each c d e u)))),

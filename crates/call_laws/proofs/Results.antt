@@ -13,6 +13,7 @@ pub one_result : {V : Type 0} (calls : ℕ → ℕ → Bool) (rule : ℕ → (�
 one_result calls rule looks n v w (result values e below) (result others f beside) =
     e ∙ looks n values others (λ m c. one_result calls rule looks m (values m) (others m) (below m c) (beside m c)) ∙ sym f
 
+-- a subprogram comes to at most one result, where the rule looks at nothing but its callees' results
 pub results_one : ResultsAreOne
 results_one calls rule looks n v w a b = one_result calls rule looks n v w a b
 
@@ -22,6 +23,7 @@ result_away calls rule n v (result values e below) r =
     let c : CallsOne calls n = cycle_from_callee calls n r in
     result_away calls rule c.callee (values c.callee) (below c.callee c.is) c.reaches
 
+-- what comes to a result reaches no call cycle
 pub results_away : ResultsReachNoCycle
 results_away calls rule n v a r = result_away calls rule n v a r
 
@@ -93,6 +95,7 @@ module _ {V : Type 0} (none : V) (calls : ℕ → ℕ → Bool) (rule : ℕ → 
     | inr c ↦ inr (long_reaches calls count below n c.rest c.walk (let e : length c.rest ≡ suc count = c.long in omega (arith, e)))
   ]
 
+-- a subprogram comes to a result or reaches a call cycle
 pub or_cycles : ResultsOrCycles
 or_cycles calls rule count below n = some_or_cycle 0 calls rule count below n
 
@@ -112,6 +115,7 @@ plain_leads : (calls : ℕ → ℕ → Bool) (fits : ℕ → Bool) (n m : ℕ) �
 plain_leads calls fits n m p (inl e) = subst (λ (x : ℕ). fits x ≡ true) e (plain_fits calls fits n p)
 plain_leads calls fits n m p (inr r) = plain_along calls fits n m r.between p r.walk
 
+-- a call leads to where its callee leads
 pub leads_on : (calls : ℕ → ℕ → Bool) (n k m : ℕ) → calls n k ≡ true → LeadsTo calls k m → LeadsTo calls n m
 leads_on calls n k m c (inl e) = inr (record { between = []; walk = (subst (λ (x : ℕ). calls n x ≡ true) e c, tt) })
 leads_on calls n k m c (inr r) = inr (record { between = k ∷ r.between; walk = (c, r.walk) })
@@ -121,6 +125,7 @@ plain_from : (calls : ℕ → ℕ → Bool) (fits : ℕ → Bool) (n v : ℕ) �
 plain_from calls fits n v (result values e below) h =
     plain (h n (inl refl)) (λ m c. plain_from calls fits m (values m) (below m c) (λ k l. h k (leads_on calls n m k c l)))
 
+-- the least set of what is fit with all its callees is what reaches no call cycle and leads only to what is fit
 pub plain_fit : PlainReachTheFit
 plain_fit calls fits count below n = (
   (λ p. ((λ r. plain_away calls fits n p r), (λ m l. plain_leads calls fits n m p l))),

@@ -6,9 +6,11 @@ use Rattle.std.specs.List.Sorted.{IsStrictlyIncreasing}
 use Rattle.std.proofs.lemmas.List.Elements.{All-contains, All-nil, All-cons, All-weaker}
 use Rattle.call_laws.specs.Rising.{IsRisingBy, IsStrict, RisingListsAreOne, ReasonListsAreOne}
 
+-- a list contains its first
 pub contains_first : {A : Type 0} (x : A) (xs : List A) → Contains (x ∷ xs) x
 contains_first x xs = (0, omega arith, refl)
 
+-- what the rest contains the list contains
 pub contains_later : {A : Type 0} (x : A) (xs : List A) (y : A) → Contains xs y → Contains (x ∷ xs) y
 contains_later x xs y c = (suc c.0, (let l : c.0 < length xs = c.1 in omega (arith, l)), c.2)
 
@@ -16,9 +18,11 @@ cases_at : {A : Type 0} (x : A) (xs : List A) (y : A) (k : ℕ) → k < length (
 cases_at x xs y zero l e = inl e
 cases_at x xs y (suc k) l e = inr (k, omega arith, e)
 
+-- what a list contains is its first or in the rest
 pub contains_cases : {A : Type 0} (x : A) (xs : List A) (y : A) → Contains (x ∷ xs) y → (x ≡ y) ⊎ Contains xs y
 contains_cases x xs y c = cases_at x xs y c.0 c.1 c.2
 
+-- the empty list contains nothing
 pub none_in_empty : {A : Type 0} (y : A) → Contains [] y → ⊥
 none_in_empty y c = let l : c.0 < 0 = c.1 in omega (arith, l)
 
@@ -67,10 +71,12 @@ numbers_rise : (xs : List ℕ) → IsStrictlyIncreasing xs → IsRisingBy ◌<�
 numbers_rise [] h = tt
 numbers_rise (x ∷ xs) h = (first_below x xs h, numbers_rise xs (rest_rises x xs h))
 
+-- strictly rising lists of numbers with the same members are one list
 pub rising_lists : RisingListsAreOne
 rising_lists xs ys r s same = rising_one ◌<◌ (record { apart = λ a b l m. omega arith }) xs ys (numbers_rise xs r) (numbers_rise ys s) (λ n. (same n).0)
     (λ n. (same n).1)
 
+-- a context has one list of reasons
 pub reason_lists : ReasonListsAreOne
 reason_lists causes c one two a b =
     rising_lists one two a.rising b.rising (λ r. ((λ x. (b.members r).1 ((a.members r).0 x)), (λ x. (a.members r).1 ((b.members r).0 x))))

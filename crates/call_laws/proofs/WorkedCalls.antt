@@ -88,6 +88,7 @@ worked_followed = record {
 worked_below : AreBelow worked_follows 6
 worked_below = by_follows (λ n m. m < 6) (omega arith) (omega arith) (omega arith) (omega arith) (omega arith)
 
+-- its followed calls end
 pub chains : WorkedChainsEnd
 chains = record { followed = worked_followed; below = worked_below; end = followed_end worked_calls worked_follows 6 worked_followed worked_below }
 
@@ -133,6 +134,7 @@ worked_looks n f g h = ap (λ (l : List ℕ). 1 + sum l) (map_agree f g (slice_i
 five_reaches : ReachesCycle worked_calls 5
 five_reaches = record { member = 3; there = inr (record { between = []; walk = (refl, tt) }); round = record { between = 4 ∷ []; walk = (refl, (refl, tt)) } }
 
+-- what reaches no call cycle comes to one result, and what reaches one to none
 pub results : WorkedResults
 results = record {
   result = result_zero;
@@ -157,6 +159,7 @@ calls_below (suc (suc (suc (suc zero)))) m c = let e : 3 ≡ m = in_one 3 m c in
 calls_below (suc (suc (suc (suc (suc zero))))) m c = elim (in_two 2 3 m c) [ inl e ↦ omega (arith, e) | inr e ↦ omega (arith, e) ]
 calls_below (suc (suc (suc (suc (suc (suc n)))))) m c = cc
 
+-- what reaches no call cycle is plain where all are fit, and what reaches one isn't
 pub plains : WorkedPlain
 plains = record {
   plain = plain refl (λ m c. elim (in_two 1 2 m c) [
@@ -197,6 +200,7 @@ worked_found = record {
   asked = asked_found;
 }
 
+-- what is needed from one subprogram on
 pub neededs : WorkedNeeded
 neededs = record { found = worked_found; exact = found_needed (1 ∷ []) worked_asks (1 ∷ 2 ∷ []) worked_found }
 
@@ -246,6 +250,7 @@ none_zero u =
       ]),
     ) u
 
+-- the reasons of what calls into the cycle, and none of what doesn't
 pub reasons : WorkedReasons
 reasons = record {
   list = worked_list;

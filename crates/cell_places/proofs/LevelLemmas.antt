@@ -19,6 +19,7 @@ height_near c low = let t : nat_lt c 32 ≡ true = grind (arith, nat_tests) in r
 height_far : (c : ℕ) → 32 ≤ c → height_of c ≡ c - 32
 height_far c high = let t : nat_lt c 32 ≡ false = grind (arith, nat_tests) in rw t refl
 
+-- the place of a cell that is no global is its altitude above the invalid window, round the ring of windows
 pub places_are_altitudes : PlacesAreAltitudes
 places_are_altitudes invalid cwp c below window low high = go (lies cwp c) where
   go : Lies cwp c → place_of cwp c ≡ 8 + (16 * invalid + altitude_of (level_above invalid cwp) c) % 128
@@ -36,6 +37,7 @@ places_are_altitudes invalid cwp c below window low high = go (lies cwp c) where
 caller_near : (depth c : ℕ) → c < 32 → caller_cell depth c ≡ Some (cell_of depth c)
 caller_near depth c low = let t : nat_lt c 32 ≡ true = grind (arith, nat_tests) in rw t refl
 
+-- a cell of a callee that is a cell of its caller is the one that stands for it there
 pub callees_cells_are_callers : CalleesCellsAreCallers
 callees_cells_are_callers cwp depth c k window shallow low high same = elim (cases_lt c 32) [
   | inl near ↦ caller_near depth c near ∙ ap (λ (x : ℕ). Some x) (is_cell near)
@@ -95,6 +97,7 @@ height_low c low high = elim (cases_lt c 32) [
   | inr far ↦ (let e = height_far c far in omega arith)
 ]
 
+-- a register that a frame may write, and that is a cell of a frame above it, is a cell of each frame between them
 pub cells_are_between : CellsAreBetween
 cells_are_between invalid low middle high depth r k is within same = elim (cases_lt r 8) [
   | inl global ↦

@@ -1,5 +1,6 @@
 -- Where the cells of a frame stand among the registers, and what is read and written there.
-use Rattle.std.proofs.Common.{◌≡◌, ◌≢◌, ℕ, zero, suc, ◌+◌, ◌-◌, ◌*◌, ◌%◌, ◌^◌, ◌<◌, ◌≤◌, inl, inr, ◌&&◌, Bool, true, false, length, refl, sym, ap, subst, ◌∙◌, arith, cond, eqb}
+use Rattle.std.proofs.Common.{◌≡◌, ◌≢◌, ℕ, zero, suc, ◌+◌, ◌-◌, ◌*◌, ◌%◌, ◌^◌, ◌<◌, ◌≤◌, inl, inr, ◌&&◌, Bool, true, false, length, refl, sym, ap}
+use Rattle.std.proofs.Common.{subst, ◌∙◌, arith, cond, eqb}
 use Rattle.std.specs.Prelude.{◌==◌, nat_lt, slice_index, slice_set}
 use Rattle.std.proofs.lemmas.Bool.{cases_lt}
 use Rattle.std.proofs.lemmas.Bool.Decides.{nat_tests, eqb_tells}
@@ -16,6 +17,7 @@ use Rattle.sparc_runs.proofs.Bounds.{below_everywhere}
 pub physical_low : (cwp r : ℕ) → r < 8 → physical_of cwp r ≡ r
 physical_low cwp r low = let t : nat_lt r 8 ≡ true = grind (arith, nat_tests) in rw t refl
 
+-- the place of a register that is no global
 pub physical_high : (cwp r : ℕ) → 8 ≤ r → physical_of cwp r ≡ 8 + (16 * cwp + r - 8) % 128
 physical_high cwp r high = let t : nat_lt r 8 ≡ false = grind (arith, nat_tests) in rw t refl
 
@@ -25,6 +27,7 @@ pub data Lies (cwp c : ℕ) : Type 0 where
   Near : 8 ≤ c → c < 32 → place_of cwp c ≡ 8 + (16 * cwp + 112 + (c + 8)) % 128 → Lies cwp c
   Deep : 32 ≤ c → place_of cwp c ≡ 8 + (16 * cwp + 112 + (c - 32)) % 128 → Lies cwp c
 
+-- where a cell lies
 pub lies : (cwp c : ℕ) → Lies cwp c
 lies cwp c =
     elim (cases_lt c 32) [
@@ -101,9 +104,11 @@ with_content-same contents c value some =
     let u : (c == 0) ≡ false = grind (arith, nat_tests) in
     rw (t, u) refl
 
+-- a write leaves the other cells
 pub with_content-other : (contents : ℕ → ℕ) (c value k : ℕ) → k ≢ c → with_content contents c value k ≡ contents k
 with_content-other contents c value k other = let t : (k == c) ≡ false = grind (arith, nat_tests) in rw t refl
 
+-- a write to cell 0 leaves all cells
 pub with_content-zero : (contents : ℕ → ℕ) (c value k : ℕ) → c ≡ 0 → with_content contents c value k ≡ contents k
 with_content-zero contents c value k none =
     let u : (c == 0) ≡ true = grind (arith, nat_tests) in rw u (by (k == c)) where
@@ -122,6 +127,7 @@ physical_within cwp r = elim (cases_lt r 8) [
 pub content_there : (m : Machine) (cwp c : ℕ) → c ≢ 0 → content_of m cwp c ≡ slice_index m.regs (place_of cwp c)
 content_there m cwp c some = let t : (c == 0) ≡ false = grind (arith, nat_tests) in rw t refl
 
+-- cell 0 holds 0
 pub content_zero : (m : Machine) (cwp c : ℕ) → c ≡ 0 → content_of m cwp c ≡ 0
 content_zero m cwp c none = let t : (c == 0) ≡ true = grind (arith, nat_tests) in rw t refl
 
@@ -177,15 +183,18 @@ written cwp depth m r value c at below within = elim (eqb_tells r 0) [
     elsewhere some = elim (eqb_tells c (cell_of depth r)) [
       | inl same ↦
           ap (λ (k : ℕ). content_of (put_at m r value) cwp k) same.1 ∙ here some
-          ∙ sym (ap (λ (k : ℕ). with_content (content_of m cwp) (cell_of depth r) value k) same.1 ∙ with_content-same (content_of m cwp) (cell_of depth r) value (cell_some some))
+          ∙ sym (ap (λ (k : ℕ). with_content (content_of m cwp) (cell_of depth r) value k) same.1
+          ∙ with_content-same (content_of m cwp) (cell_of depth r) value (cell_some some))
       | inr other ↦ others other.1 ∙ sym (with_content-other (content_of m cwp) (cell_of depth r) value c other.1)
     ]
 
+-- a cell holds a word
 pub content_word : (cwp : ℕ) (m : Machine) (c : ℕ) → IsMachine m → content_of m cwp c < 2 ^ 32
 content_word cwp m c is = go (eqb c 0) where
   go : (b : Bool) → cond b 0 (slice_index m.regs (place_of cwp c)) < 2 ^ 32
   go true = omega arith
   go false = below_everywhere (2 ^ 32) m.regs (place_of cwp c) (omega arith) is.words
 
+-- registers have what their cells hold; a write of one changes what its cell holds alone; and all are words
 pub registers_hold_contents : RegistersHoldContents
 registers_hold_contents = record { read = read; written = written; words = content_word }

@@ -1,5 +1,6 @@
 -- Where the delay instructions of calls and returns lead, as the facts answer it.
-use Rattle.std.proofs.Common.{◌≡◌, ℕ, ◌+◌, ◌-◌, ◌*◌, ◌%◌, ◌/◌, ◌^◌, ◌<◌, inl, inr, Bool, true, false, List, ◌∷◌, Option, Some, None, refl, sym, ap, subst, ◌∙◌, arith, if◌then◌else◌}
+use Rattle.std.proofs.Common.{◌≡◌, ℕ, ◌+◌, ◌-◌, ◌*◌, ◌%◌, ◌/◌, ◌^◌, ◌<◌, inl, inr, Bool, true, false, List, ◌∷◌, Option, Some, None, refl, sym, ap}
+use Rattle.std.proofs.Common.{subst, ◌∙◌, arith, if◌then◌else◌}
 use Rattle.std.specs.Prelude.{◌==◌, is_some, not}
 use Rattle.std.proofs.lemmas.Bool.{both_ways, cases_Bool, cases_eq, false≢true}
 use Rattle.abs_state.specs.State.{without}
@@ -25,7 +26,8 @@ use Rattle.sparc_runs.specs.Cost.{annuls}
 use Rattle.sparc_runs.specs.Going.{skips}
 use Rattle.sparc_runs.specs.Running.{returns}
 use Rattle.sparc_runs.specs.Window.{depth_from}
-use Rattle.stack_laws.specs.Standing.{Backs, GoesOn, HandsOn, IsBack, StackFacts, Stands, behind_by, comes_back, effects_or_none, lent, no_effects, place_of, summary_in, waiting_place}
+use Rattle.stack_laws.specs.Standing.{Backs, GoesOn, HandsOn, IsBack, StackFacts, Stands, behind_by, comes_back, effects_or_none, lent, no_effects}
+use Rattle.stack_laws.specs.Standing.{place_of, summary_in, waiting_place}
 use Rattle.stack_laws.specs.StepFacts.{GoesInto, GoesOut, PassesNothingOver, pushed, IsTaken as Takes}
 use Rattle.state_covers.proofs.CoverLemmas.{greater_states_cover}
 use Rattle.state_covers.specs.Covers.{Covers}
@@ -74,10 +76,15 @@ none_written depth c = by (depth == 0) where
   by true = refl
   by false = refl
 
-module _ (t image costs : List ℕ) (list : List BoundAssertion) (eight : Bool) (y : StackFacts) (x : Facts) (bound : IsBound image list) (invalid : ℕ) (due : Transfer) (top : Frame) (rest : List Frame) (m next : Machine) (answers : Answers t (family t image list) (program_of image list eight (widest image list)) (y (top ∷ rest)) x) (takes : Takes image costs list y x invalid due top rest m next) (d : IsDone t image list eight (y (top ∷ rest)) (place_of due top m) top m next) where
+module _ (t image costs : List ℕ) (list : List BoundAssertion) (eight : Bool) (y : StackFacts) (x : Facts) (bound : IsBound image list) (invalid : ℕ)
+    (due : Transfer) (top : Frame) (rest : List Frame) (m next : Machine)
+    (answers : Answers t (family t image list) (program_of image list eight (widest image list)) (y (top ∷ rest)) x)
+    (takes : Takes image costs list y x invalid due top rest m next)
+    (d : IsDone t image list eight (y (top ∷ rest)) (place_of due top m) top m next) where
   -- the step, where it goes on
   pub record GoesOnward : Type 0 where
-    pub taken : IsTaken (family t image list) (program_of image list eight (widest image list)) (y (top ∷ rest)) (place_of due top m) d.step Onward d.before d.after
+    pub taken : IsTaken (family t image list) (program_of image list eight (widest image list)) (y (top ∷ rest))
+        (place_of due top m) d.step Onward d.before d.after
     pub pc : next.pc ≡ m.npc
     pub npc : next.npc ≡ (m.npc + 4) % 2 ^ 32
     pub still : transfer_of image m ≡ Stays
@@ -87,17 +94,23 @@ module _ (t image costs : List ℕ) (list : List BoundAssertion) (eight : Bool) 
       let way = d.is.onward is in
       let leads = subst (λ (w : Way). WayLeads image w (content_of m top.start.cwp) (flags_in m) m next) way d.does.leads in
       record {
-        taken = subst (λ (w : Way). IsTaken (family t image list) (program_of image list eight (widest image list)) (y (top ∷ rest)) (place_of due top m) d.step w d.before d.after) way d.taken;
+        taken = subst (λ (w : Way). IsTaken (family t image list) (program_of image list eight (widest image list)) (y (top ∷ rest))
+            (place_of due top m) d.step w d.before d.after) way d.taken;
         pc = leads.this;
         npc = leads.after;
-        still = subst (λ (w : Way). Agrees w m.pc (transfer_of image m)) way (acts_agree_with_frames image list eight (place_of due top m) d.step d.way m d.taken.act refl);
+        still = subst (λ (w : Way). Agrees w m.pc (transfer_of image m)) way
+            (acts_agree_with_frames image list eight (place_of due top m) d.step d.way m d.taken.act refl);
       }
 
   whole : is_next (place_of due top m).next m.pc ≡ false → PassesNothingOver image m next
   whole is = subst (λ (o : Option Instr). annuls o m.pc next.pc ≡ false) (sym d.code) (d.is.whole is m.pc next.pc)
 
 -- the delay instruction of a call
-module _ (t image costs : List ℕ) (list : List BoundAssertion) (eight : Bool) (y : StackFacts) (x : Facts) (bound : IsBound image list) (invalid target address : ℕ) (top : Frame) (rest : List Frame) (m next : Machine) (answers : Answers t (family t image list) (program_of image list eight (widest image list)) (y (top ∷ rest)) x) (takes : Takes image costs list y x invalid (Calls target address) top rest m next) (d : IsDone t image list eight (y (top ∷ rest)) (place_of (Calls target address) top m) top m next) where
+module _ (t image costs : List ℕ) (list : List BoundAssertion) (eight : Bool) (y : StackFacts) (x : Facts) (bound : IsBound image list)
+    (invalid target address : ℕ) (top : Frame) (rest : List Frame) (m next : Machine)
+    (answers : Answers t (family t image list) (program_of image list eight (widest image list)) (y (top ∷ rest)) x)
+    (takes : Takes image costs list y x invalid (Calls target address) top rest m next)
+    (d : IsDone t image list eight (y (top ∷ rest)) (place_of (Calls target address) top m) top m next) where
   pub on : GoesOnward t image costs list eight y x bound invalid (Calls target address) top rest m next answers takes d
   on = slot t image costs list eight y x bound invalid (Calls target address) top rest m next answers takes d refl
 
@@ -121,7 +134,8 @@ module _ (t image costs : List ℕ) (list : List BoundAssertion) (eight : Bool) 
     none is =
         within_by (lent x top (pushed target address next)) (summary_in x top.sub).written
         (λ k has. absurd (both_ways (has_cell 0 k) (empty k)
-        (sym (none_written (depth_from top.start.cwp next.cwp) k) ∙ subst (λ (e : Effects). has_cell (after_call e.written (depth_from top.start.cwp next.cwp)) k ≡ true) is has)))
+        (sym (none_written (depth_from top.start.cwp next.cwp) k)
+        ∙ subst (λ (e : Effects). has_cell (after_call e.written (depth_from top.start.cwp next.cwp)) k ≡ true) is has)))
       where
         empty : (k : ℕ) → has_cell 0 k ≡ false
         empty k = elim (cases_Bool (has_cell 0 k)) [ inl has ↦ absurd (masks_are_sets.none k has) | inr free ↦ free ]
@@ -133,14 +147,18 @@ module _ (t image costs : List ℕ) (list : List BoundAssertion) (eight : Bool) 
     by (Some (fact.Sum there)) is =
         let says = answers.says_calls (place_of (Calls target address) top m) target d.step d.before d.after there on.taken refl is in
         let up = (up_parts (record { returns = false; skips = false; written = after_call there.written d.step.depth }) says.all says.above).written in
-        subst (λ (e : Effects). is_within (after_call e.written (depth_from top.start.cwp next.cwp)) (summary_in x top.sub).written ≡ true) (sym (summary_is x target there is))
-        (subst (λ (e : Effects). is_within (after_call there.written (depth_from top.start.cwp next.cwp)) e.written ≡ true) (sym (summary_is x top.sub says.all says.found))
+        subst (λ (e : Effects). is_within (after_call e.written (depth_from top.start.cwp next.cwp)) (summary_in x top.sub).written ≡ true)
+        (sym (summary_is x target there is))
+        (subst (λ (e : Effects). is_within (after_call there.written (depth_from top.start.cwp next.cwp)) e.written ≡ true)
+        (sym (summary_is x top.sub says.all says.found))
         (subst (λ (n : ℕ). is_within (after_call there.written n) says.all.written ≡ true) (sym at) up))
     by (Some fact.Mark) is = none (ap (λ o. effects_or_none (effects_in o)) is)
 
   -- a machine that has come back goes on
   back_by : (k : Machine) (skip : Bool) (there : Effects) (n : ℕ) → n ≡ behind_by skip → x (key.Summary target) ≡ Some (fact.Sum there)
-      → LeadsTo (y (top ∷ rest)) (place_of (Calls target address) top m) (onward (place_of (Calls target address) top m) ((address + n) % 2 ^ 32) d.step.depth) (without d.after (after_call there.written d.step.depth))
+      → LeadsTo (y (top ∷ rest)) (place_of (Calls target address) top m)
+      (onward (place_of (Calls target address) top m) ((address + n) % 2 ^ 32) d.step.depth)
+      (without d.after (after_call there.written d.step.depth))
       → IsBack x top (pushed target address next) skip k → GoesOn image (y (top ∷ rest)) top (pushed target address next) k
   back_by k skip there n by found leads is =
       let covers : Covers (without d.after (after_call there.written d.step.depth)) d.step.depth top k =
@@ -163,7 +181,8 @@ module _ (t image costs : List ℕ) (list : List BoundAssertion) (eight : Bool) 
           state = leads.state;
           is = subst (λ (r : Place). state_in (y (top ∷ rest) (key.Node r)) ≡ Some leads.state) same (ap state_in leads.found);
           shallow = subst (λ (j : ℕ). j < 2) (sym deep) d.shallow;
-          covers = greater_states_cover (without d.after (after_call there.written d.step.depth)) leads.state (depth_from top.start.cwp k.cwp) top k leads.above is.machine takes.entered.word
+          covers = greater_states_cover (without d.after (after_call there.written d.step.depth)) leads.state
+              (depth_from top.start.cwp k.cwp) top k leads.above is.machine takes.entered.word
               (subst (λ (j : ℕ). Covers (without d.after (after_call there.written d.step.depth)) j top k) (sym deep) covers);
           leads = tt;
         };
@@ -177,7 +196,8 @@ module _ (t image costs : List ℕ) (list : List BoundAssertion) (eight : Bool) 
       let there = said x target false is.comes in
       let comes : there.effects.returns ≡ true = subst (λ (e : Effects). comes_back e false ≡ true) (summary_is x target there.effects there.found) is.comes in
       back_by k false there.effects 8 refl there.found
-      (subst (λ (a : ℕ). LeadsTo (y (top ∷ rest)) (place_of (Calls target address) top m) (onward (place_of (Calls target address) top m) a d.step.depth) (without d.after (after_call there.effects.written d.step.depth)))
+      (subst (λ (a : ℕ). LeadsTo (y (top ∷ rest)) (place_of (Calls target address) top m)
+      (onward (place_of (Calls target address) top m) a d.step.depth) (without d.after (after_call there.effects.written d.step.depth)))
       near (answers.comes_back (place_of (Calls target address) top m) target d.step d.before d.after there.effects on.taken refl there.found comes)) is
     where
       near : (m.pc + 4) % 2 ^ 32 ≡ (address + 8) % 2 ^ 32
@@ -186,7 +206,8 @@ module _ (t image costs : List ℕ) (list : List BoundAssertion) (eight : Bool) 
       let there = said x target true is.comes in
       let comes : there.effects.skips ≡ true = subst (λ (e : Effects). comes_back e true ≡ true) (summary_is x target there.effects there.found) is.comes in
       back_by k true there.effects 12 refl there.found
-      (subst (λ (a : ℕ). LeadsTo (y (top ∷ rest)) (place_of (Calls target address) top m) (onward (place_of (Calls target address) top m) a d.step.depth) (without d.after (after_call there.effects.written d.step.depth)))
+      (subst (λ (a : ℕ). LeadsTo (y (top ∷ rest)) (place_of (Calls target address) top m)
+      (onward (place_of (Calls target address) top m) a d.step.depth) (without d.after (after_call there.effects.written d.step.depth)))
       far (answers.skips (place_of (Calls target address) top m) target d.step d.before d.after there.effects on.taken refl there.found comes)) is
     where
       far : (m.pc + 8) % 2 ^ 32 ≡ (address + 12) % 2 ^ 32
@@ -213,20 +234,26 @@ module _ (t image costs : List ℕ) (list : List BoundAssertion) (eight : Bool) 
       let npc : next.npc ≡ (target + 4) % 2 ^ 32 = on.npc ∙ ap (λ (n : ℕ). (n + 4) % 2 ^ 32) takes.stands.leads in
       let zero_depth : depth_from next.cwp next.cwp ≡ 0 = depths.start next.cwp d.covers_next.machine.window in
       let same : entry_of target ≡ place_of Stays (pushed target address next) next =
-      same_place (entry_of target) (place_of Stays (pushed target address next) next) refl (sym takes.stands.leads ∙ sym on.pc) (ap At (sym npc)) (sym zero_depth) in
+      same_place (entry_of target) (place_of Stays (pushed target address next) next) refl (sym takes.stands.leads ∙ sym on.pc) (ap At (sym npc))
+      (sym zero_depth) in
       let covers = entered_cover t d.after d.step.depth top (pushed target address next) takes.entered.machine.window d.shallow d.covers_next link.1 in
       record {
         state = has.state;
         is = subst (λ (r : Place). state_in (y (pushed target address next ∷ top ∷ rest) (key.Node r)) ≡ Some has.state) same (ap state_in has.found);
         shallow = subst (λ (n : ℕ). n < 2) (sym zero_depth) (omega arith);
-        covers = greater_states_cover (entered_with (arguments d.step.depth d.after)) has.state (depth_from next.cwp next.cwp) (pushed target address next) next has.above d.covers_next.machine
+        covers = greater_states_cover (entered_with (arguments d.step.depth d.after)) has.state (depth_from next.cwp next.cwp)
+            (pushed target address next) next has.above d.covers_next.machine
             takes.running.due.word
             (subst (λ (n : ℕ). Covers (entered_with (arguments d.step.depth d.after)) n (pushed target address next) next) (sym zero_depth) covers);
         leads = tt;
       }
 
 -- the delay instruction of a return
-module _ (t image costs : List ℕ) (list : List BoundAssertion) (eight : Bool) (y : StackFacts) (x : Facts) (bound : IsBound image list) (invalid : ℕ) (top : Frame) (rest : List Frame) (m next : Machine) (answers : Answers t (family t image list) (program_of image list eight (widest image list)) (y (top ∷ rest)) x) (takes : Takes image costs list y x invalid Returns top rest m next) (d : IsDone t image list eight (y (top ∷ rest)) (place_of Returns top m) top m next) where
+module _ (t image costs : List ℕ) (list : List BoundAssertion) (eight : Bool) (y : StackFacts) (x : Facts) (bound : IsBound image list) (invalid : ℕ)
+    (top : Frame) (rest : List Frame) (m next : Machine)
+    (answers : Answers t (family t image list) (program_of image list eight (widest image list)) (y (top ∷ rest)) x)
+    (takes : Takes image costs list y x invalid Returns top rest m next)
+    (d : IsDone t image list eight (y (top ∷ rest)) (place_of Returns top m) top m next) where
   off : GoesOnward t image costs list eight y x bound invalid Returns top rest m next answers takes d
   off = slot t image costs list eight y x bound invalid Returns top rest m next answers takes d refl
 
@@ -247,26 +274,39 @@ module _ (t image costs : List ℕ) (list : List BoundAssertion) (eight : Bool) 
     by None is leave = absurd (false≢true leave)
     by (Some i) is leave = sym (ap is_skip (code_is_read image ((m.pc + 2 ^ 32 - 4) % 2 ^ 32) i is) ∙ skip_is i)
 
-  said_back : Says x top.sub (record { returns = not (is_skip (instruction_at image ((m.pc + 2 ^ 32 - 4) % 2 ^ 32))); skips = is_skip (instruction_at image ((m.pc + 2 ^ 32 - 4) % 2 ^ 32)); written = 0 })
+  said_back : Says x top.sub (record {
+    returns = not (is_skip (instruction_at image ((m.pc + 2 ^ 32 - 4) % 2 ^ 32)));
+    skips = is_skip (instruction_at image ((m.pc + 2 ^ 32 - 4) % 2 ^ 32));
+    written = 0;
+  })
   said_back = answers.says_back (place_of Returns top m) d.step d.before d.after off.taken refl shut
 
   comes : (b : Bool) → is_skip (instruction_at image ((m.pc + 2 ^ 32 - 4) % 2 ^ 32)) ≡ b → comes_back (summary_in x top.sub) b ≡ true
   comes false is =
-      let up = up_parts (record { returns = not (is_skip (instruction_at image ((m.pc + 2 ^ 32 - 4) % 2 ^ 32))); skips = is_skip (instruction_at image ((m.pc + 2 ^ 32 - 4) % 2 ^ 32)); written = 0 }) said_back.all said_back.above in
+      let up = up_parts (record {
+        returns = not (is_skip (instruction_at image ((m.pc + 2 ^ 32 - 4) % 2 ^ 32)));
+        skips = is_skip (instruction_at image ((m.pc + 2 ^ 32 - 4) % 2 ^ 32));
+        written = 0;
+      }) said_back.all said_back.above in
       subst (λ (e : Effects). comes_back e false ≡ true) (sym (summary_is x top.sub said_back.all said_back.found))
       (subst (λ (k : Bool). implies (not k) said_back.all.returns ≡ true) is up.returns)
   comes true is =
-      let up = up_parts (record { returns = not (is_skip (instruction_at image ((m.pc + 2 ^ 32 - 4) % 2 ^ 32))); skips = is_skip (instruction_at image ((m.pc + 2 ^ 32 - 4) % 2 ^ 32)); written = 0 }) said_back.all said_back.above in
+      let up = up_parts (record {
+        returns = not (is_skip (instruction_at image ((m.pc + 2 ^ 32 - 4) % 2 ^ 32)));
+        skips = is_skip (instruction_at image ((m.pc + 2 ^ 32 - 4) % 2 ^ 32));
+        written = 0;
+      }) said_back.all said_back.above in
       subst (λ (e : Effects). comes_back e true ≡ true) (sym (summary_is x top.sub said_back.all said_back.found))
       (subst (λ (k : Bool). implies k said_back.all.skips ≡ true) is up.skips)
 
   pub goes_out : GoesOut image x top m next
   goes_out = by (is_skip (instruction_at image ((m.pc + 2 ^ 32 - 4) % 2 ^ 32))) refl where
     from : (b : Bool) → is_skip (instruction_at image ((m.pc + 2 ^ 32 - 4) % 2 ^ 32)) ≡ b → m.npc ≡ (top.caller + behind_by b) % 2 ^ 32
-    from b is = takes.stands.leads ∙ ap (λ (k : Bool). (top.caller + (if k then 12 else 8)) % 2 ^ 32) (skip_same ∙ is) ∙ ap (λ (n : ℕ). (top.caller + n) % 2 ^ 32) (bytes b) where
-      bytes : (k : Bool) → (if k then 12 else 8) ≡ behind_by k
-      bytes true = refl
-      bytes false = refl
+    from b is = takes.stands.leads ∙ ap (λ (k : Bool). (top.caller + (if k then 12 else 8)) % 2 ^ 32) (skip_same ∙ is)
+        ∙ ap (λ (n : ℕ). (top.caller + n) % 2 ^ 32) (bytes b) where
+          bytes : (k : Bool) → (if k then 12 else 8) ≡ behind_by k
+          bytes true = refl
+          bytes false = refl
 
     window : next.cwp ≡ top.start.cwp
     window = let w = d.covers_next.covers.window in let z = shut in let s = takes.entered.machine.window in omega arith

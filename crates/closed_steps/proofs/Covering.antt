@@ -28,6 +28,9 @@ use Rattle.closed_steps.proofs.Leading.{summary_is}
 use Rattle.closed_steps.proofs.Taking.{done}
 use Rattle.closed_steps.specs.Graph.{Answers, ClosedStatesCoverSteps, GraphsCoverSteps}
 
+-- where the facts at each stack of frames lead on within them, and say of subprograms and of gaps what the rules say,
+-- each step of a run that meets the assertions, from a covered machine where nothing is open, shows what the law of the
+-- stack asks: it goes along an edge to a covered machine, or makes a call and enters it, or comes back
 pub graphs_cover_steps : GraphsCoverSteps
 graphs_cover_steps image costs list eight y x bound graphs = record { inside = inside; into = into; entered = entered; out = out; stubs = graphs.stubs } where
   inside : (invalid : ℕ) (top : Frame) (rest : List Frame) (m next : Machine) → Takes image costs list y x invalid Stays top rest m next
@@ -37,7 +40,11 @@ graphs_cover_steps image costs list eight y x bound graphs = record { inside = i
       let answers = graphs.answers (top ∷ rest) in
       let d = done t image costs list eight y x bound (graphs.are (top ∷ rest)) invalid Stays top rest m next answers takes in
       let w = leading.goes_inside t image costs list eight y x bound invalid Stays top rest m next answers takes m.npc refl refl d in
-      record { edge = w.edge; stands = w.stands; writes = leading.writes_cells t image costs list eight y x bound invalid Stays top rest m next answers takes d }
+      record {
+        edge = w.edge;
+        stands = w.stands;
+        writes = leading.writes_cells t image costs list eight y x bound invalid Stays top rest m next answers takes d;
+      }
 
   into : (invalid target address : ℕ) (top : Frame) (rest : List Frame) (m next : Machine)
       → Takes image costs list y x invalid (Calls target address) top rest m next → GoesInto image (y (top ∷ rest)) x target address top m next
@@ -91,6 +98,7 @@ closed_answers t f m x closed = record {
   says_back = λ p step before after is at flat. closed_says.back t f m x p step before after closed is at flat;
 }
 
+-- so do the facts of any closed state of the rules, at every stack: those of the due graph among them
 pub closed_states_cover_steps : ClosedStatesCoverSteps
 closed_states_cover_steps t image costs list eight x bound thresholds closed =
     graphs_cover_steps image costs list eight (λ stack. x) x bound
@@ -99,11 +107,13 @@ closed_states_cover_steps t image costs list eight x bound thresholds closed =
       are = λ stack. thresholds;
       answers = λ stack. closed_answers t (family t image list) (program_of image list eight (widest image list)) x closed;
       enters = λ F G rest step before after is followed.
-          closed_calls.enters t (family t image list) (program_of image list eight (widest image list)) x (waiting_place F G) G.sub step before after closed is refl followed;
+          closed_calls.enters t (family t image list) (program_of image list eight (widest image list)) x
+          (waiting_place F G) G.sub step before after closed is refl followed;
       stubs = stubs_say;
     })
   where
     stubs_say : (target : ℕ) → is_stub list target ≡ true → is_at_most effects_of_stub (summary_in x target) ≡ true
     stubs_say target is =
-        let says = closed_starts.stubs t (family t image list) (program_of image list eight (widest image list)) x target closed (((stubs_those list bound.sound).each target).1 is) in
+        let says = closed_starts.stubs t (family t image list) (program_of image list eight (widest image list)) x target closed
+        (((stubs_those list bound.sound).each target).1 is) in
         subst (λ (e : Effects). is_at_most effects_of_stub e ≡ true) (sym (summary_is x target says.all says.found)) says.above

@@ -1,5 +1,6 @@
 -- Runs follow the facts of a closed state.
-use Rattle.std.proofs.Common.{◌≡◌, ℕ, zero, suc, ◌^◌, ◌<◌, Bool, true, false, List, [], ◌∷◌, length, Option, Some, None, Contains, refl, sym, ap, subst, ◌∙◌, arith}
+use Rattle.std.proofs.Common.{◌≡◌, ℕ, zero, suc, ◌^◌, ◌<◌, Bool, true, false, List, [], ◌∷◌, length, Option, Some, None, Contains, refl, sym, ap}
+use Rattle.std.proofs.Common.{subst, ◌∙◌, arith}
 use Rattle.std.specs.Prelude.{slice_index_or, is_some}
 use Rattle.std.proofs.lemmas.Bool.{eqb-true}
 use Rattle.std.specs.List.{cons_option, filter_map}
@@ -103,6 +104,7 @@ timed (body.Stub a t) entry time same is =
     let within : t ≡ time = cc in
     λ i. body.Stub (at i) (within i)
 
+-- a run that meets the assertions keeps the times of stubs
 pub keeps_stubs : (image : List ℕ) (heads : Heads) (first : Machine) (rest : List Machine) (list : List BoundAssertion) → Meets image heads first rest list
     → KeepsAllStubs image list first rest
 keeps_stubs image heads first rest list meets entry time is = by (about list (of.Entry entry)) refl is where
@@ -115,6 +117,10 @@ keeps_stubs image heads first rest list meets entry time is = by (about list (of
       subst (λ (x : BoundAssertion). IsMet image heads first rest x.body) f.there (meets f.place item f.within) in
       subst (IsMet image heads first rest) (timed item.body entry time f.same has) met
 
+-- a run from a root that meets the assertions is followed by the facts of any closed state, up to its first gap: each
+-- machine in its top frame is covered by the state at its program point, each frame below keeps the cells that the one
+-- above may not write, each step within a frame is an edge, each push a call, and each pop lands behind its call and goes
+-- on along an edge
 pub runs_follow_closed_states : RunsFollowClosedStates
 runs_follow_closed_states t image costs list eight x heads root first rest bound thresholds closed run =
     runs_followed image costs list (λ stack. x) x root first rest

@@ -1,5 +1,6 @@
 -- Where a step of a run leads, as the facts answer it.
-use Rattle.std.proofs.Common.{◌≡◌, ℕ, ◌+◌, ◌-◌, ◌%◌, ◌^◌, ◌<◌, ◌⊎◌, inl, inr, Bool, true, false, List, [], ◌∷◌, Option, Some, None, Contains, zero, suc, refl, sym, ap, subst, ◌∙◌, arith, if◌then◌else◌}
+use Rattle.std.proofs.Common.{◌≡◌, ℕ, ◌+◌, ◌-◌, ◌%◌, ◌^◌, ◌<◌, ◌⊎◌, inl, inr, Bool, true, false, List, [], ◌∷◌, Option, Some, None, Contains, zero}
+use Rattle.std.proofs.Common.{suc, refl, sym, ap, subst, ◌∙◌, arith, if◌then◌else◌}
 use Rattle.std.specs.Prelude.{is_some, not, slice_index_or, IfSome}
 use Rattle.std.specs.List.{list_any}
 use Rattle.std.proofs.lemmas.Bool.{and_parts, both_ways, cases_Bool, not-true, or_left}
@@ -73,6 +74,7 @@ use Rattle.closed_steps.proofs.Taking.{IsDone, there}
 use Rattle.closed_steps.specs.Act.{StepIs, is_jump}
 use Rattle.closed_steps.specs.Graph.{Answers, IsBound}
 
+-- places with the same four fields are one
 pub same_place : (p q : Place) → p.sub ≡ q.sub → p.pc ≡ q.pc → p.next ≡ q.next → p.depth ≡ q.depth → p ≡ q
 same_place p q sub pc next depth = λ i. record { sub = sub i; pc = pc i; next = next i; depth = depth i }
 
@@ -110,10 +112,14 @@ only_listed n list has a is = subst (λ (b : ℕ). Contains list b) (one is.0 is
   one zero below same = same
   one (suc k) below same = absurd (omega arith)
 
+-- a summary that is there is the one that is read
 pub summary_is : (x : Facts) (sub : ℕ) (all : Effects) → x (key.Summary sub) ≡ Some (fact.Sum all) → summary_in x sub ≡ all
 summary_is x sub all found = ap (λ o. effects_or_none (effects_in o)) found
 
-module _ (t image costs : List ℕ) (list : List BoundAssertion) (eight : Bool) (y : StackFacts) (x : Facts) (bound : IsBound image list) (invalid : ℕ) (due : Transfer) (top : Frame) (rest : List Frame) (m next : Machine) (answers : Answers t (family t image list) (program_of image list eight (widest image list)) (y (top ∷ rest)) x) (takes : Takes image costs list y x invalid due top rest m next) where
+module _ (t image costs : List ℕ) (list : List BoundAssertion) (eight : Bool) (y : StackFacts) (x : Facts) (bound : IsBound image list) (invalid : ℕ)
+    (due : Transfer) (top : Frame) (rest : List Frame) (m next : Machine)
+    (answers : Answers t (family t image list) (program_of image list eight (widest image list)) (y (top ∷ rest)) x)
+    (takes : Takes image costs list y x invalid due top rest m next) where
   -- no gap stands where the machine does
   pub no_gap : (kind : GapKind) → x (key.Gap top.sub m.pc kind) ≡ Some fact.Mark → ⊥
   no_gap kind is = both_ways (is_some (x (key.Gap top.sub m.pc kind))) (takes.closed kind) (ap is_some is)
@@ -225,7 +231,8 @@ module _ (t image costs : List ℕ) (list : List BoundAssertion) (eight : Bool) 
       let due_next : IsDue image (Calls target.0 m.pc) next = subst (λ (to : Transfer). IsDue image to next) target.1 due_behind in
       let same : next.npc ≡ target.0 = due_next.npc in
       let known = known_call step aim before after taken in
-      let parts = and_parts (resolved t image list m.pc aim before).whole (not (list_any (is_behind (place_of due top m)) (resolved t image list m.pc aim before).list)) known in
+      let parts = and_parts (resolved t image list m.pc aim before).whole
+      (not (list_any (is_behind (place_of due top m)) (resolved t image list m.pc aim before).list)) known in
       let has = has_target i aim before code covers (λ left right kind e. is.computed left right kind (ap Some e)) does.leads.aims parts.0 in
       let apart : is_behind (place_of due top m) next.npc ≡ false = elim (cases_Bool (is_behind (place_of due top m) next.npc)) [
         | inl there ↦
@@ -240,7 +247,8 @@ module _ (t image costs : List ℕ) (list : List BoundAssertion) (eight : Bool) 
       let at = depth_is step after shallow covers_next in
       subst (λ (to : Transfer). Went to) (sym target.1)
       (went (Calls target.0 m.pc) (delayed (place_of due top m) (Into next.npc)) after step.depth leads covers_next
-      (same_place (delayed (place_of due top m) (Into next.npc)) (place_of (Calls target.0 m.pc) top next) refl (sym does.leads.pc) (ap Into same) (sym flat ∙ sym at))
+      (same_place (delayed (place_of due top m) (Into next.npc)) (place_of (Calls target.0 m.pc) top next) refl (sym does.leads.pc) (ap Into same)
+      (sym flat ∙ sym at))
       at shallow same)
 
   jumps : (step : Step) (aim : Aim) (before after : State)
@@ -249,7 +257,8 @@ module _ (t image costs : List ℕ) (list : List BoundAssertion) (eight : Bool) 
       → (i : Instr) → code_instruction image m.pc ≡ Some i → StepIs (place_of due top m) i step (JumpsTo aim) → step.depth < 2
       → transfer_of image m ≡ Stays → Went (transfer_of image m)
   jumps step aim before after taken covers covers_next does i code is shallow agrees =
-      let has = has_target i aim before code covers (λ left right kind e. is.computed left right kind (ap Some e)) does.leads.aims (known_jump step aim before after taken) in
+      let has = has_target i aim before code covers (λ left right kind e. is.computed left right kind (ap Some e)) does.leads.aims
+      (known_jump step aim before after taken) in
       let leads = answers.jumps (place_of due top m) next.npc step aim before after taken has in
       let flat : step.depth ≡ (place_of due top m).depth = is.flat (λ e. absurd (cc)) in
       let at = depth_is step after shallow covers_next in
@@ -272,30 +281,36 @@ module _ (t image costs : List ℕ) (list : List BoundAssertion) (eight : Bool) 
   -- a direction of a branch that is taken
   takes_exit : (step : Step) (way : Way) (exit : Exit) (after : State) → IsCovered t after step.depth top next → Does image step way top.start.cwp m next
       → (place_of due top m).depth ≡ step.depth → flags_in next ≡ flags_in m → step.depth < 2 → ExitLeads (Some exit) (flags_in m) next
-      → ((s : State) → tested t exit.test after ≡ Some s → LeadsTo (y (top ∷ rest)) (place_of due top m) (place (place_of due top m) exit.pc (At exit.npc) (place_of due top m).depth) s)
+      → ((s : State) → tested t exit.test after ≡ Some s
+      → LeadsTo (y (top ∷ rest)) (place_of due top m) (place (place_of due top m) exit.pc (At exit.npc) (place_of due top m).depth) s)
       → transfer_of image m ≡ Stays → Went (transfer_of image m)
   takes_exit step way exit after covers does flat same shallow leads answer agrees =
-      let left = there t (tested t exit.test after) step.depth top next (tests_cover t exit.test after step.depth top next covers (subst (λ f. IsOpen exit.test f) (sym same) leads.1)) in
+      let left = there t (tested t exit.test after) step.depth top next
+      (tests_cover t exit.test after step.depth top next covers (subst (λ f. IsOpen exit.test f) (sym same) leads.1)) in
       let at = depth_is step after shallow covers in
       subst (λ (to : Transfer). Went to) (sym agrees)
       (went Stays (place (place_of due top m) exit.pc (At exit.npc) (place_of due top m).depth) left.state step.depth (answer left.state left.is) left.covers
-      (same_place (place (place_of due top m) exit.pc (At exit.npc) (place_of due top m).depth) (place_of Stays top next) refl (sym leads.0.this) (ap At (sym leads.0.after)) (flat ∙ sym at))
+      (same_place (place (place_of due top m) exit.pc (At exit.npc) (place_of due top m).depth) (place_of Stays top next) refl (sym leads.0.this)
+      (ap At (sym leads.0.after)) (flat ∙ sym at))
       at shallow tt)
 
   forks : (step : Step) (first second : Option Exit) (before after : State)
-      → IsTaken (family t image list) (program_of image list eight (widest image list)) (y (top ∷ rest)) (place_of due top m) step (Forks first second) before after
+      → IsTaken (family t image list) (program_of image list eight (widest image list)) (y (top ∷ rest)) (place_of due top m) step
+      (Forks first second) before after
       → IsCovered t after step.depth top next → Does image step (Forks first second) top.start.cwp m next
       → (i : Instr) → StepIs (place_of due top m) i step (Forks first second) → step.depth < 2 → transfer_of image m ≡ Stays → Went (transfer_of image m)
   forks step first second before after taken covers does i is shallow agrees = by first second taken does.leads where
     same : flags_in next ≡ flags_in m
     same =
-        subst (λ (s : Step). FlagsFollow s.flags (content_of next top.start.cwp) (flags_in m) (flags_in next)) (is.forks first second refl) does.follows.follows.flags
+        subst (λ (s : Step). FlagsFollow s.flags (content_of next top.start.cwp) (flags_in m) (flags_in next))
+        (is.forks first second refl) does.follows.follows.flags
 
     flat : (place_of due top m).depth ≡ step.depth
     flat = sym (is.flat (λ e. absurd (cc)))
 
     by : (one two : Option Exit)
-        → IsTaken (family t image list) (program_of image list eight (widest image list)) (y (top ∷ rest)) (place_of due top m) step (Forks one two) before after
+        → IsTaken (family t image list) (program_of image list eight (widest image list)) (y (top ∷ rest)) (place_of due top m) step
+        (Forks one two) before after
         → ExitLeads one (flags_in m) next ⊎ ExitLeads two (flags_in m) next → Went (transfer_of image m)
     by None two these (inl leads) = absurd leads
     by (Some exit) two these (inl leads) =
@@ -345,8 +360,13 @@ module _ (t image costs : List ℕ) (list : List BoundAssertion) (eight : Bool) 
           → IsTaken (family t image list) (program_of image list eight (widest image list)) (y (top ∷ rest)) (place_of due top m) step way before after
           → IsCovered t before (place_of due top m).depth top m → IsCovered t after step.depth top next → Does image step way top.start.cwp m next
           → StepIs (place_of due top m) d.instruction step way → Agrees way m.pc (transfer_of image m) → step.depth < 2 → Went (transfer_of image m)
-      by step Onward before after taken covers covers_next does is agrees shallow = goes_onward n is_at same step before after taken covers_next does shallow agrees
-      by step (Forks first second) before after taken covers covers_next does is agrees shallow = forks step first second before after taken covers_next does d.instruction is shallow agrees
-      by step (CallsTo aim) before after taken covers covers_next does is agrees shallow = calls step aim before after taken covers covers_next does d.instruction d.code is shallow agrees
-      by step (JumpsTo aim) before after taken covers covers_next does is agrees shallow = jumps step aim before after taken covers covers_next does d.instruction d.code is shallow agrees
-      by step (ReturnsBy c) before after taken covers covers_next does is agrees shallow = returns step c before after taken covers covers_next does d.instruction d.code is shallow agrees
+      by step Onward before after taken covers covers_next does is agrees shallow =
+          goes_onward n is_at same step before after taken covers_next does shallow agrees
+      by step (Forks first second) before after taken covers covers_next does is agrees shallow =
+          forks step first second before after taken covers_next does d.instruction is shallow agrees
+      by step (CallsTo aim) before after taken covers covers_next does is agrees shallow =
+          calls step aim before after taken covers covers_next does d.instruction d.code is shallow agrees
+      by step (JumpsTo aim) before after taken covers covers_next does is agrees shallow =
+          jumps step aim before after taken covers covers_next does d.instruction d.code is shallow agrees
+      by step (ReturnsBy c) before after taken covers covers_next does is agrees shallow =
+          returns step c before after taken covers covers_next does d.instruction d.code is shallow agrees

@@ -58,15 +58,18 @@ pub record IsThere (t : List ℕ) (o : Option State) (depth : ℕ) (F : Frame) (
   pub is : o ≡ Some state
   pub covers : IsCovered t state depth F m
 
+-- a state that covers is there
 pub there : (t : List ℕ) (o : Option State) (depth : ℕ) (F : Frame) (m : Machine) → IsCoveredSome t o depth F m → IsThere t o depth F m
 there t None depth F m is = absurd is
 there t (Some s) depth F m is = record { state = s; is = refl; covers = is }
 
 -- what the act of a place keeps of its instruction
-place_act : (image : List ℕ) (list : List BoundAssertion) (eight : Bool) (p : Place) (i : Instr) → never list p.pc ≡ false → code_instruction image p.pc ≡ Some i
+place_act : (image : List ℕ) (list : List BoundAssertion) (eight : Bool) (p : Place) (i : Instr) → never list p.pc ≡ false
+    → code_instruction image p.pc ≡ Some i
     → ActIs p i (act_at image list eight p)
 place_act image list eight p i reached code =
-    subst (λ (b : Bool). ActIs p i (if b then Dead else act_there list eight p (instruction_at image (behind p.pc 4)) (code_instruction image p.pc))) (sym reached)
+    subst (λ (b : Bool). ActIs p i (if b then Dead else act_there list eight p (instruction_at image (behind p.pc 4)) (code_instruction image p.pc)))
+    (sym reached)
     (subst (λ (o : Option Instr). ActIs p i (act_there list eight p (instruction_at image (behind p.pc 4)) o)) (sym code) (by (is_stub list p.pc)))
   where
     by : (b : Bool) → ActIs p i (if b then Open why.Jump else act_of eight p (instruction_at image (behind p.pc 4)) i)
@@ -89,7 +92,10 @@ pub record IsDone (t image : List ℕ) (list : List BoundAssertion) (eight : Boo
   pub shallow : step.depth < 2
   pub reached : never list p.pc ≡ false
 
-module _ (t image costs : List ℕ) (list : List BoundAssertion) (eight : Bool) (y : StackFacts) (x : Facts) (bound : IsBound image list) (thresholds : IsThresholds t) (invalid : ℕ) (due : Transfer) (top : Frame) (rest : List Frame) (m next : Machine) (answers : Answers t (family t image list) (program_of image list eight (widest image list)) (y (top ∷ rest)) x) (takes : Takes image costs list y x invalid due top rest m next) where
+module _ (t image costs : List ℕ) (list : List BoundAssertion) (eight : Bool) (y : StackFacts) (x : Facts) (bound : IsBound image list)
+    (thresholds : IsThresholds t) (invalid : ℕ) (due : Transfer) (top : Frame) (rest : List Frame) (m next : Machine)
+    (answers : Answers t (family t image list) (program_of image list eight (widest image list)) (y (top ∷ rest)) x)
+    (takes : Takes image costs list y x invalid due top rest m next) where
   here : IsHere image (place_of due top m) top.start.cwp m
   here = record {
     accepted = bound.accepted;
@@ -116,6 +122,7 @@ module _ (t image costs : List ℕ) (list : List BoundAssertion) (eight : Bool) 
     covers = takes.stands.covers;
   }
 
+  -- what the step from a place does there
   pub done : IsDone t image list eight (y (top ∷ rest)) (place_of due top m) top m next
   done =
       let kept = assertions_kept image list (place_of due top m) top.start.cwp m true bound.sound here takes.meets in
@@ -128,7 +135,8 @@ module _ (t image costs : List ℕ) (list : List BoundAssertion) (eight : Bool) 
       by_act left.state allowed left.covers (instruction_of s.this) code kept.reached (act_at image list eight (place_of due top m)) refl
       (place_act image list eight (place_of due top m) (instruction_of s.this) kept.reached code)
     where
-      by_act : (before : State) → IsAllowed (family t image list) (y (top ∷ rest)) (place_of due top m) before → IsCovered t before (place_of due top m).depth top m
+      by_act : (before : State) → IsAllowed (family t image list) (y (top ∷ rest)) (place_of due top m) before
+          → IsCovered t before (place_of due top m).depth top m
           → (i : Instr) → code_instruction image m.pc ≡ Some i → never list m.pc ≡ false
           → (act : Act) → act_at image list eight (place_of due top m) ≡ act → ActIs (place_of due top m) i act
           → IsDone t image list eight (y (top ∷ rest)) (place_of due top m) top m next
@@ -139,7 +147,8 @@ module _ (t image costs : List ℕ) (list : List BoundAssertion) (eight : Bool) 
       by_act before allowed covers i code reached (Acts step way) same is =
           let machine = keeps_machines image costs m next bound.bytes takes.running.machine takes.steps in
           let does = steps_do image costs list eight (place_of due top m) step way top.start.cwp m next here same takes.steps in
-          let after = there t (stepped t image step before) step.depth top next (steps_cover t image step way before (place_of due top m).depth top m next covers machine does) in
+          let after = there t (stepped t image step before) step.depth top next
+          (steps_cover t image step way before (place_of due top m).depth top m next covers machine does) in
           record {
             step = step;
             way = way;

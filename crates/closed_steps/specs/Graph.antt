@@ -46,9 +46,11 @@ pub record Answers (t : List ℕ) (f : Family) (m : Program) (facts x : Facts) :
   pub goes_on : (p : Place) (n : ℕ) (step : Step) (before after : State) → IsTaken f m facts p step Onward before after → p.next ≡ At n
       → LeadsTo facts p (onward p n step.depth) after
   pub first : (p : Place) (step : Step) (exit : Exit) (other : Option Exit) (before after s : State)
-      → IsTaken f m facts p step (Forks (Some exit) other) before after → f.test exit.test after ≡ Some s → LeadsTo facts p (place p exit.pc (At exit.npc) p.depth) s
+      → IsTaken f m facts p step (Forks (Some exit) other) before after → f.test exit.test after ≡ Some s
+      → LeadsTo facts p (place p exit.pc (At exit.npc) p.depth) s
   pub second : (p : Place) (step : Step) (exit : Exit) (other : Option Exit) (before after s : State)
-      → IsTaken f m facts p step (Forks other (Some exit)) before after → f.test exit.test after ≡ Some s → LeadsTo facts p (place p exit.pc (At exit.npc) p.depth) s
+      → IsTaken f m facts p step (Forks other (Some exit)) before after → f.test exit.test after ≡ Some s
+      → LeadsTo facts p (place p exit.pc (At exit.npc) p.depth) s
   pub calls : (p : Place) (target : ℕ) (step : Step) (aim : Aim) (before after : State) → IsTaken f m facts p step (CallsTo aim) before after
       → Contains (f.resolve p.pc aim before).list target → is_behind p target ≡ false → LeadsTo facts p (delayed p (Into target)) after
   pub jumps : (p : Place) (target : ℕ) (step : Step) (aim : Aim) (before after : State) → IsTaken f m facts p step (JumpsTo aim) before after

@@ -1,5 +1,6 @@
 -- The numbers of code, gathered one address after the other.
-use Rattle.std.proofs.Common.{◌≡◌, ℕ, ℤ, ◌+◌, ◌%◌, ◌<◌, ◌≤◌, ◌^◌, ◌&&◌, if◌then◌else◌, IfSome, Bool, true, false, List, [], ◌++◌, Option, Some, None, MatchOption, Contains, refl, sym, ◌∙◌, subst, arith, eqb, is_some, inl, inr}
+use Rattle.std.proofs.Common.{◌≡◌, ℕ, ℤ, ◌+◌, ◌%◌, ◌<◌, ◌≤◌, ◌^◌, ◌&&◌, if◌then◌else◌, IfSome, Bool, true, false, List, [], ◌++◌, Option, Some, None}
+use Rattle.std.proofs.Common.{MatchOption, Contains, refl, sym, ◌∙◌, subst, arith, eqb, is_some, inl, inr}
 use Rattle.std.specs.Option.{option_map}
 use Rattle.std.proofs.lemmas.Bool.{cases_lt}
 use Rattle.bt_image.specs.Image.{is_code, held, word, IsNextCode, HasNoCodeFrom}
@@ -50,6 +51,7 @@ noted_to image list f (Some y) noted next = (
   ],
 )
 
+-- up to the next word of code all is noted
 pub noted_behind : (image : List ℕ) (list : List ℤ) (x f : ℕ) (o : Option ℕ) → is_code image x ≡ true → f ≤ x + 4
     → ((b : ℕ) → b < x + 1 → is_code image b ≡ true → IsNoted image list b) → MatchOption o (HasNoCodeFrom image f) (IsNextCode image f)
     → AreNotedTo image list o
@@ -64,10 +66,12 @@ one_more image list x noted here a lt code = elim (cases_lt a x) [
   | inr large ↦ let same : x ≡ a = omega arith in subst (λ (b : ℕ). IsNoted image list b) same here
 ]
 
+-- where no instruction stands, nothing has to be noted
 pub noted_none : (image : List ℕ) (list : List ℤ) (x : ℕ) → code_instruction image x ≡ None → ((a : ℕ) → a < x → is_code image a ≡ true → IsNoted image list a)
     → (a : ℕ) → a < x + 1 → is_code image a ≡ true → IsNoted image list a
 noted_none image list x none noted = one_more image list x noted (λ i is z has. let clash : Some i ≡ None = sym is ∙ none in absurd (cc))
 
+-- the numbers of one instruction more are noted
 pub noted_some : (image : List ℕ) (list items : List ℤ) (x : ℕ) (i : Instr) → code_instruction image x ≡ Some i
     → ((a : ℕ) → a < x → is_code image a ≡ true → IsNoted image list a) → items ≡ list ++ numbers_of i
     → (a : ℕ) → a < x + 1 → is_code image a ≡ true → IsNoted image items a
@@ -79,6 +83,7 @@ noted_some image list items x i is noted same =
     subst (λ (l : List ℤ). Contains l z) (sym same)
     (Contains-append_right list (numbers_of i) z (subst (λ (k : Instr). Contains (numbers_of k) z) (sym one) has)))
 
+-- each number that is added is of the code
 pub each_some : (image : List ℕ) (list items : List ℤ) (x : ℕ) (i : Instr) → code_instruction image x ≡ Some i
     → ((z : ℤ) → Contains list z → IsOfCode image z) → items ≡ list ++ numbers_of i
     → (z : ℤ) → Contains items z → IsOfCode image z
@@ -109,6 +114,7 @@ nothing_yet image o next = record {
 pub has_behind : (image : List ℕ) (x : ℕ) → is_code image x ≡ true → x < 2 ^ 32 → x < 4294967295
 has_behind image x here fits = let is : x % 4 ≡ 0 = aligned image x here in omega arith
 
+-- the next word of code is greater
 pub greater_than : (image : List ℕ) (x f : ℕ) (o : Option ℕ) → x < f → MatchOption o (HasNoCodeFrom image f) (IsNextCode image f) → IfSome o (λ y. x < y)
 greater_than image x f None lt none = tt
 greater_than image x f (Some y) lt next = let above : f ≤ y = next.above in omega arith

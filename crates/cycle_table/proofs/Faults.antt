@@ -1,5 +1,6 @@
 -- The first fault of a list of lines, and what lines without a fault give.
-use Rattle.std.proofs.Common.{◌≡◌, ◌≢◌, ℕ, zero, suc, ◌+◌, ◌<◌, ◌≤◌, inl, inr, Bool, false, List, [], ◌∷◌, ◌++◌, length, take, get_or, Option, Some, None, Result, Ok, Err, refl, sym, ap, subst, ◌∙◌, arith, eqb, append_assoc, MatchOption}
+use Rattle.std.proofs.Common.{◌≡◌, ◌≢◌, ℕ, zero, suc, ◌+◌, ◌<◌, ◌≤◌, inl, inr, Bool, false, List, [], ◌∷◌, ◌++◌, length, take, get_or, Option, Some}
+use Rattle.std.proofs.Common.{None, Result, Ok, Err, refl, sym, ap, subst, ◌∙◌, arith, eqb, append_assoc, MatchOption}
 use Rattle.std.specs.Prelude.{slice_get, find}
 use Rattle.std.proofs.lemmas.Bool.{cases_Bool, cases_eq, cases_lt, eqb-false, eq-eqb, ne_eqb, cases_order}
 use Rattle.std.proofs.lemmas.List.{append-nil, get_or_past}
@@ -82,6 +83,7 @@ module _ (version : Version) where
     cases None fine later = firsts_later earlier row rest (first_fault version (earlier ++ row ∷ []) rest) fine later
     cases (Some fault) bad later = firsts_here earlier row rest fault bad
 
+  -- the first fault of a body is at the first line that has one
   pub faults_first : (body : List Row)
       → MatchOption (first_fault version [] body) ((k : ℕ) → fault_at version body k ≡ None) (λ fault. IsFirstFault version body fault)
   faults_first body = of (first_fault version [] body) (firsts [] body) where
@@ -205,6 +207,7 @@ module _ (version : Version) where
             record { line = 0; row = row; stands = refl; class = g.class; given = g.given ∙ ap (λ (n : ℕ). ok_of g.class n) total; at = g.at }
       ]
 
+  -- where no class is without a cost, each of the version has one
   pub none_free : (costs : List ℕ) (class : CostClass) → first_free version costs ≡ None → place_of class < count_of version → cost_at costs class ≢ 0
   unfolding first_free
   none_free costs class none within =
@@ -276,6 +279,7 @@ module _ (version : Version) where
     cases None fine (Some class) free is = cc
     cases (Some fault) fine free none is = cc
 
+  -- a body that is accepted gives each class of the version its cost once
   pub tables_whole : (body : List Row) (costs : List ℕ) → body_of version body ≡ Ok costs → IsWhole version body costs
   tables_whole body costs is = record { each = each; some = some; once = once; none = none; told = tells_version costs some none } where
     table : IsTable body costs

@@ -1,5 +1,6 @@
 -- The table of a text, line by line.
-use Rattle.std.proofs.Common.{◌≡◌, ◌≢◌, ℕ, zero, suc, ◌+◌, ◌<◌, ◌≤◌, inl, inr, List, [], ◌∷◌, ◌++◌, length, get_or, All, Option, Some, None, Ok, Err, refl, sym, ap, subst, ◌∙◌, arith, append_assoc}
+use Rattle.std.proofs.Common.{◌≡◌, ◌≢◌, ℕ, zero, suc, ◌+◌, ◌<◌, ◌≤◌, inl, inr, List, [], ◌∷◌, ◌++◌, length, get_or, All, Option, Some, None, Ok, Err}
+use Rattle.std.proofs.Common.{refl, sym, ap, subst, ◌∙◌, arith, append_assoc}
 use Rattle.std.specs.Prelude.{slice_set, replicate}
 use Rattle.std.specs.List.{range_with_len}
 use Rattle.std.proofs.lemmas.Bool.{cases_eq, eq-eqb, ne_eqb}
@@ -18,6 +19,7 @@ pub record IsNew (costs : List ℕ) (class : CostClass) (cost : ℕ) : Type 0 wh
   pub some : cost ≢ 0
   pub none : cost_at costs class ≡ 0
 
+-- a cost without a fault is new and in its range
 pub new_cost : (costs : List ℕ) (number : ℕ) (class : CostClass) (cost : ℕ) → fault_said costs number (Ok (class, cost)) ≡ None → IsNew costs class cost
 new_cost costs number class cost fine = elim (cases_eq cost 0) [
   | inl free ↦ (let e = rw (eq-eqb cost 0 free) at fine in cc)
@@ -34,14 +36,17 @@ no_costs_at zero k d within = absurd (omega arith)
 no_costs_at (suc n) zero d within = omega arith
 no_costs_at (suc n) (suc k) d within = no_costs_at n k d (omega arith)
 
+-- no costs yet are at most the greatest
 pub no_costs_small : All (λ cost. cost ≤ 1000000) (replicate 30 0)
 no_costs_small k d within = no_costs_at 30 k d within
 
 module _ (version : Version) where
+  -- the costs of rows are 30
   pub length-costs_of : (rows : List Row) → length (costs_of version rows) ≡ 30
   unfolding costs_of
   length-costs_of rows = length-map (range_with_len 0 30) (cost_in version rows) ∙ length-range_with_len 0 30
 
+  -- the cost at a place is what the lines give its class, all in all
   pub costs_of_at : (rows : List Row) (k : ℕ) → k < 30 → get_or (costs_of version rows) k 0 ≡ cost_in version rows k
   unfolding costs_of
   costs_of_at rows k within = get_or-map-range_with_len (cost_in version rows) 0 30 k k 0 within (omega arith)

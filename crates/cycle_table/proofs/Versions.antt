@@ -1,5 +1,6 @@
 -- The classes of a version: where they stand, and which of them a line can name.
-use Rattle.std.proofs.Common.{◌≡◌, ℕ, ◌<◌, inl, inr, Bool, true, ◌&&◌, List, [], ◌∷◌, length, get_or, Option, Some, None, Ok, refl, sym, ap, subst, ◌∙◌, arith, ltb}
+use Rattle.std.proofs.Common.{◌≡◌, ℕ, ◌<◌, inl, inr, Bool, true, ◌&&◌, List, [], ◌∷◌, length, get_or, Option, Some, None, Ok, refl, sym, ap, subst}
+use Rattle.std.proofs.Common.{◌∙◌, arith, ltb}
 use Rattle.std.specs.Prelude.{find}
 use Rattle.std.specs.Str.{bytes_eq}
 use Rattle.std.proofs.lemmas.Bool.{cases_Bool, ltb-true, and_parts}
@@ -10,7 +11,10 @@ use Rattle.line_text.specs.Numeral.{number_up_to}
 use Rattle.cycle_table.specs.declared.classes.Version.{Version}
 use Rattle.cycle_table.specs.declared.classes.Version.TheVariants.{One, Two}
 use Rattle.sparc_decode.specs.declared.cost_class.CostClass.{CostClass}
-use Rattle.sparc_decode.specs.declared.cost_class.CostClass.TheVariants.{Alu, Shift, Sethi, Tagged, Mulscc, Save, Restore, Branch, Floatbranch, Call, Jump, Load, Loaddouble, Store, Storedouble, Atomic, Ready, Writey, Flush, Floatop, Floatcmp, Floatload, Floatloaddouble, Floatstore, Floatstoredouble, Trap, Annulled, Loaduse, Multiply, Divide, Unmodelled}
+use Rattle.sparc_decode.specs.declared.cost_class.CostClass.TheVariants.{Alu, Shift, Sethi, Tagged, Mulscc, Save, Restore, Branch, Floatbranch, Call}
+use Rattle.sparc_decode.specs.declared.cost_class.CostClass.TheVariants.{Jump, Load, Loaddouble, Store, Storedouble, Atomic, Ready, Writey, Flush}
+use Rattle.sparc_decode.specs.declared.cost_class.CostClass.TheVariants.{Floatop, Floatcmp, Floatload, Floatloaddouble, Floatstore, Floatstoredouble}
+use Rattle.sparc_decode.specs.declared.cost_class.CostClass.TheVariants.{Trap, Annulled, Loaduse, Multiply, Divide, Unmodelled}
 
 -- the class at a place
 pub class_at : (class : CostClass) → get_or classes (place_of class) Unmodelled ≡ class
@@ -46,6 +50,7 @@ class_at Multiply = refl
 class_at Divide = refl
 class_at Unmodelled = refl
 
+-- two classes at one place are one
 pub same_class : (one other : CostClass) → place_of one ≡ place_of other → one ≡ other
 same_class one other same = sym (class_at one) ∙ ap (λ (n : ℕ). get_or classes n Unmodelled) same ∙ class_at other
 
@@ -59,6 +64,7 @@ pub as_many : (version : Version) → length (classes_of version) ≡ count_of v
 as_many One = refl
 as_many Two = refl
 
+-- a class of a version stands at its place in the list of its classes
 pub stands_in : (version : Version) (class : CostClass) → place_of class < count_of version → get_or (classes_of version) (place_of class) Unmodelled ≡ class
 stands_in One class within = get_or-take 27 classes (place_of class) Unmodelled within ∙ class_at class
 stands_in Two class within = class_at class

@@ -4,7 +4,10 @@ use Rattle.std.specs.Str.{bytes_eq}
 use Rattle.cycle_table.specs.declared.classes.Version.{Version}
 use Rattle.cycle_table.specs.declared.classes.Version.TheVariants.{One, Two}
 use Rattle.sparc_decode.specs.declared.cost_class.CostClass.{CostClass}
-use Rattle.sparc_decode.specs.declared.cost_class.CostClass.TheVariants.{Alu, Shift, Sethi, Tagged, Mulscc, Save, Restore, Branch, Floatbranch, Call, Jump, Load, Loaddouble, Store, Storedouble, Atomic, Ready, Writey, Flush, Floatop, Floatcmp, Floatload, Floatloaddouble, Floatstore, Floatstoredouble, Trap, Annulled, Loaduse, Multiply, Divide, Unmodelled}
+use Rattle.sparc_decode.specs.declared.cost_class.CostClass.TheVariants.{Alu, Shift, Sethi, Tagged, Mulscc, Save, Restore, Branch, Floatbranch, Call}
+use Rattle.sparc_decode.specs.declared.cost_class.CostClass.TheVariants.{Jump, Load, Loaddouble, Store, Storedouble, Atomic, Ready, Writey, Flush}
+use Rattle.sparc_decode.specs.declared.cost_class.CostClass.TheVariants.{Floatop, Floatcmp, Floatload, Floatloaddouble, Floatstore, Floatstoredouble}
+use Rattle.sparc_decode.specs.declared.cost_class.CostClass.TheVariants.{Trap, Annulled, Loaduse, Multiply, Divide, Unmodelled}
 
 -- the classes in the order of a table
 abbrev pub classes : List CostClass

@@ -189,6 +189,7 @@ module _ (family : Family) (run : Run) (sound : IsSound family) (cycles : ℕ) w
       All-cons (SpendsTo family run cycles) top (caller ∷ rest) h
       (spends_down caller rest w.2 t.2 below (All-tail (λ (a : Activation). is_stub a.standing ≡ false) top (caller ∷ rest) plain) here)
 
+-- the top activation in a bounded context has spent at most its bound behind the next step too, whatever it leads to
 pub last_spend : LastFramesSpend
 last_spend family run root last sound facts top rest e c cycles s pays d most is b =
     let t : AreTraced (spend_claims family run) (top ∷ rest) =
@@ -205,6 +206,7 @@ last_spend family run root last sound facts top rest e c cycles s pays d most is
     subst (λ (x : ℕ). cycles ≤ run.cycles last + run.owed last + (family x).own.node (run.node x last)) same pays in
     omega (arith, there, paid)
 
+-- an activation in a bounded context has spent at most its bound once it has returned
 pub popped_spend : PoppedFramesSpend
 popped_spend family run root last sound facts place popped rest l m e =
     let t : AreTraced (spend_claims family run) (popped ∷ rest) =
@@ -230,5 +232,6 @@ spend_by family run root last sound facts place l (top ∷ rest) e plain =
     let cycles : run.cycles (last_of top) ≡ run.cycles place = ap run.cycles here in
     omega (arith, own, cycles))
 
+-- at each place without an activation whose time is asserted, each in a bounded context has spent at most its bound
 pub frames_in_bounds : FramesSpend
 frames_in_bounds family run root last sound facts place l plain = spend_by family run root last sound facts place l (stack_at family run root place) refl plain

@@ -50,6 +50,7 @@ steps_front claims s (x ∷ []) [] a = a
 steps_front claims s (x ∷ []) (y ∷ ys) a = a.0
 steps_front claims s (x ∷ z ∷ xs) ys a = (a.0, a.1, steps_front claims s (z ∷ xs) ys a.2)
 
+-- the rest of steps that are claimed are so
 pub steps_back : (claims : Claims) (s : Standing) (xs ys : List ℕ) → AreSteps claims s (xs ++ ys) → AreSteps claims s ys
 steps_back claims s [] ys a = a
 steps_back claims s (x ∷ []) [] a = tt

@@ -180,6 +180,8 @@ module _ (family : Family) (run : Run) (sound : IsSound family) where
       All-cons (Walks family run) top rest (walks_of top (traced_top (walk_claims family run) top rest t) (All-head (KeepsAsserted family run) top rest k))
       (all_walk rest (traced_below (walk_claims family run) top rest t) (All-tail (KeepsAsserted family run) top rest k))
 
+-- at each place of a run whose steps keep to the contexts, each activation in a context has gone on a walk of the
+-- context's graph that keeps the head bounds
 pub frames_on_walks : FramesWalk
 frames_on_walks family run root last sound facts place l =
     all_walk family run sound (stack_at family run root place)

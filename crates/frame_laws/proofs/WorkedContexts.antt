@@ -10,6 +10,7 @@ use Rattle.graph_laws.proofs.Counters.{rising_sums}
 use Rattle.frame_laws.specs.Context.{Counter, IsSound, IsBound, IsCounter, costs_in, is_bounded}
 use Rattle.frame_laws.specs.Worked.{outer, outer_edge, outer_counter, outer_leads, inner, inner_edge, inner_loops, worked}
 
+-- what is there is one
 pub some_is : {A : Type 0} {a b : A} → ◌≡◌ {A = Option A} (Some a) (Some b) → a ≡ b
 some_is e = cc
 
@@ -230,5 +231,6 @@ worked_bounds : (c most : ℕ) → (worked c).most ≡ Some most → IsBound wor
 worked_bounds zero most e = subst (IsBound worked outer) (some_is e) outer_bound
 worked_bounds (suc c) most e = subst (IsBound worked inner) (some_is e) inner_bound
 
+-- the worked contexts are sound
 pub worked_sound : IsSound worked
 worked_sound = record { counters = worked_counters; bounds = worked_bounds }

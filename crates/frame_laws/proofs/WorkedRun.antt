@@ -457,17 +457,21 @@ worked_followed = record {
   stubs = λ p c time popped caller rest l m e i s. below StubAt 10 all_stubs p l popped (caller ∷ rest) time m e s;
 }
 
+-- the contexts of the run are sound, and each of its steps keeps to them
 pub worked_is_followed : WorkedRunIsFollowed
 worked_is_followed = record { sound = worked_sound; followed = worked_followed }
 
+-- its activations are on walks of their contexts
 pub worked_walk : WorkedFramesWalk
 worked_walk = record { stack = refl; walk = frames_on_walks worked worked_run (In 0) 10 worked_sound worked_followed }
 
+-- inside the callee both activations are within their bounds
 pub worked_spend : WorkedFramesSpend
 worked_spend = frames_in_bounds worked worked_run (In 0) 10 worked_sound worked_followed 4 (omega arith)
     (All-cons (λ (a : Activation). is_stub a.standing ≡ false) (callee_frame (3 ∷ 4 ∷ [])) (first_frame (1 ∷ []) ∷ []) refl
     (All-cons (λ (a : Activation). is_stub a.standing ≡ false) (first_frame (1 ∷ [])) [] refl (All-nil (λ (a : Activation). is_stub a.standing ≡ false))))
 
+-- once it has returned, the callee has spent exactly its bound
 pub worked_callee : WorkedCalleeMeetsItsBound
 worked_callee = record {
   within = popped_spend worked worked_run (In 0) 10 worked_sound worked_followed 4 (callee_frame (3 ∷ 4 ∷ [])) (first_frame (1 ∷ []) ∷ [])
@@ -488,6 +492,7 @@ up_to_nine = record {
   stubs = λ p c time popped caller rest l m e i s. worked_followed.stubs p c time popped caller rest (omega arith) m e i s;
 }
 
+-- behind its last step the root has spent exactly its bound
 pub worked_root : WorkedRootMeetsItsBound
 worked_root = record {
   within = λ cycles pays. last_spend worked worked_run (In 0) 9 worked_sound up_to_nine (first_frame

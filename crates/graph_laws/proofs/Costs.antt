@@ -1,5 +1,6 @@
 -- Labels bound what walks cost.
-use Rattle.std.proofs.Common.{◌≡◌, ◌≢◌, ◌&&◌, ℕ, zero, suc, ◌+◌, ◌-◌, ◌*◌, ◌≤◌, inl, inr, Bool, true, false, List, [], ◌∷◌, ◌++◌, length, Option, Some, refl, sym, ap, subst, ◌∙◌, arith, cond}
+use Rattle.std.proofs.Common.{◌≡◌, ◌≢◌, ◌&&◌, ℕ, zero, suc, ◌+◌, ◌-◌, ◌*◌, ◌≤◌, inl, inr, Bool, true, false, List, [], ◌∷◌, ◌++◌, length, Option}
+use Rattle.std.proofs.Common.{Some, refl, sym, ap, subst, ◌∙◌, arith, cond}
 use Rattle.std.specs.Prelude.{unwrap_or}
 use Rattle.std.proofs.lemmas.Bool.Decides.{eqb_tells}
 use Rattle.std.proofs.lemmas.List.{length-append}
@@ -8,22 +9,27 @@ use Rattle.graph_laws.specs.Walk.{IsWalk, AreInside, passes, end_of, Costs, cost
 use Rattle.graph_laws.specs.Loops.{Loops, AreLoops, KeepsBounds, is_back, CostAtMost, edges_inside}
 use Rattle.graph_laws.specs.Labels.{Labels, turn_cost, laps_cost, charge, step_cost, IsAtLeast, AreLabels, AreOwnLabels, most_from, OwnLabelsBoundWalks}
 use Rattle.graph_laws.proofs.Walks.{end-append, end_inside, walk_front, walk_back, passes_other}
-use Rattle.graph_laws.proofs.Stretches.{tells, both, first, first_here, first_tail, first_front, first_back, first_passes, NextPass, next_pass, IsHeld, held_from_keeps, held_front, held_back}
+use Rattle.graph_laws.proofs.Stretches.{tells, both, first, first_here, first_tail, first_front, first_back, first_passes, NextPass, next_pass}
+use Rattle.graph_laws.proofs.Stretches.{IsHeld, held_from_keeps, held_front, held_back}
 
 -- what a walk costs but for its last node
 abbrev pub spent : Costs → ℕ → List ℕ → ℕ
 spent costs n [] = 0
 spent costs n (m ∷ rest) = costs.node n + costs.edge n m + spent costs m rest
 
+-- a walk costs what it has spent and its last node
 pub cost_is_spent : (costs : Costs) (n : ℕ) (rest : List ℕ) → cost_of costs n rest ≡ spent costs n rest + costs.node (end_of n rest)
 cost_is_spent costs n [] = omega arith
-cost_is_spent costs n (m ∷ rest) = let e : cost_of costs m rest ≡ spent costs m rest + costs.node (end_of m rest) = cost_is_spent costs m rest in omega (arith, e)
+cost_is_spent costs n (m ∷ rest) = let e : cost_of costs m rest ≡ spent costs m rest + costs.node (end_of m rest) =
+    cost_is_spent costs m rest in omega (arith, e)
 
+-- what two walks have spent adds up
 pub spent-append : (costs : Costs) (n m : ℕ) (xs ys : List ℕ)
     → spent costs n (xs ++ m ∷ ys) ≡ spent costs n xs + (costs.node (end_of n xs) + costs.edge (end_of n xs) m) + spent costs m ys
 spent-append costs n m [] ys = omega arith
 spent-append costs n m (x ∷ xs) ys =
-    let e : spent costs x (xs ++ m ∷ ys) ≡ spent costs x xs + (costs.node (end_of x xs) + costs.edge (end_of x xs) m) + spent costs m ys = spent-append costs x m xs ys in omega (arith, e)
+    let e : spent costs x (xs ++ m ∷ ys) ≡ spent costs x xs + (costs.node (end_of x xs) + costs.edge (end_of x xs) m) + spent costs m ys =
+    spent-append costs x m xs ys in omega (arith, e)
 
 -- a label that is there and with so much more is at least so much
 record IsBounded (label : Option ℕ) (amount more : ℕ) : Type 0 where
@@ -35,7 +41,8 @@ record IsBounded (label : Option ℕ) (amount more : ℕ) : Type 0 where
 abbrev Descends : Loops → (ℕ → ℕ) → Costs → Labels → (ℕ → Option ℕ) → ℕ → List ℕ → Type 0
 Descends loops bound costs labels label n [] = Unit {0}
 Descends loops bound costs labels label n (m ∷ rest) =
-    (is_back loops n m ≡ false → (v : ℕ) → label m ≡ Some v → IsAtLeast (label n) (step_cost loops bound costs labels n m + v)) × Descends loops bound costs labels label m rest
+    (is_back loops n m ≡ false → (v : ℕ) → label m ≡ Some v → IsAtLeast (label n) (step_cost loops bound costs labels n m + v))
+    × Descends loops bound costs labels label m rest
 
 -- no head but the first node itself is passed again before its body, in which the walk begins, is left
 abbrev pub IsCalm : Loops → ℕ → List ℕ → Type 0
@@ -49,7 +56,8 @@ laps loops labels n rest = cond (loops.has n) (first (loops.body n) n rest * tur
 abbrev Claim : (ℕ → ℕ → Bool) → Loops → (ℕ → ℕ) → Costs → Labels → ℕ → Type 0
 Claim edge loops bound costs labels size =
     (label : ℕ → Option ℕ) (n : ℕ) (rest : List ℕ) → length rest ≤ size → IsWalk edge n rest → IsHeld loops bound (n ∷ rest) → IsCalm loops n rest
-    → Descends loops bound costs labels label n rest → (v : ℕ) → label (end_of n rest) ≡ Some v → IsBounded (label n) (spent costs n rest + v) (laps loops labels n rest)
+    → Descends loops bound costs labels label n rest → (v : ℕ) → label (end_of n rest) ≡ Some v
+    → IsBounded (label n) (spent costs n rest + v) (laps loops labels n rest)
 
 descends_back : (loops : Loops) (bound : ℕ → ℕ) (costs : Costs) (labels : Labels) (label : ℕ → Option ℕ) (n : ℕ) (xs : List ℕ) (m : ℕ) (ys : List ℕ)
     → Descends loops bound costs labels label n (xs ++ m ∷ ys) → Descends loops bound costs labels label m ys
@@ -77,7 +85,8 @@ module _ (edge : ℕ → ℕ → Bool) (entry : ℕ) (loops : Loops) (bound : �
   turn_descends h n (m ∷ rest) has two b i w =
       ((λ forward v e. asks.turn h n m v has two b i.0 w.0 forward e), turn_descends h m rest has two i.0 i.1 w.1)
 
-  inside_outer : (k n : ℕ) (xs : List ℕ) → loops.has n ≡ true → loops.has k ≡ true → loops.body k n ≡ true → n ≢ k → AreInside (loops.body n) xs → AreInside (loops.body k) xs
+  inside_outer : (k n : ℕ) (xs : List ℕ) → loops.has n ≡ true → loops.has k ≡ true → loops.body k n ≡ true → n ≢ k → AreInside (loops.body n) xs
+      → AreInside (loops.body k) xs
   inside_outer k n [] a b c d i = tt
   inside_outer k n (x ∷ xs) a b c d i = (ok.within n k x a b c d i.0, inside_outer k n xs a b c d i.1)
 
@@ -86,12 +95,14 @@ module _ (edge : ℕ → ℕ → Bool) (entry : ℕ) (loops : Loops) (bound : �
       → (label : ℕ → Option ℕ) (n : ℕ) (between after : List ℕ) → length (between ++ n ∷ after) ≤ suc size → IsWalk edge n (between ++ n ∷ after)
       → IsHeld loops bound (n ∷ (between ++ n ∷ after)) → IsCalm loops n (between ++ n ∷ after)
       → Descends loops bound costs labels label n (between ++ n ∷ after) → (v : ℕ) → label (end_of n (between ++ n ∷ after)) ≡ Some v
-      → loops.has n ≡ true → AreInside (loops.body n) between → passes n between ≡ 0 → first (loops.body n) n (between ++ n ∷ after) ≡ suc (first (loops.body n) n after)
+      → loops.has n ≡ true → AreInside (loops.body n) between → passes n between ≡ 0
+      → first (loops.body n) n (between ++ n ∷ after) ≡ suc (first (loops.body n) n after)
       → IsBounded (label n) (spent costs n (between ++ n ∷ after) + v) (laps loops labels n (between ++ n ∷ after))
   with_turn size claim label n between after short w held calm d v e has inside once count =
       let head : loops.body n n ≡ true = ok.head n has in
       let size_of : length (between ++ n ∷ after) ≡ length between + length (n ∷ after) = length-append between (n ∷ after) in
-      let all_of : first (loops.body n) n (n ∷ (between ++ n ∷ after)) ≡ suc (first (loops.body n) n (between ++ n ∷ after)) = first_here (loops.body n) n n (between ++ n ∷ after) head refl in
+      let all_of : first (loops.body n) n (n ∷ (between ++ n ∷ after)) ≡ suc (first (loops.body n) n (between ++ n ∷ after)) =
+      first_here (loops.body n) n n (between ++ n ∷ after) head refl in
       let held_n : first (loops.body n) n (n ∷ (between ++ n ∷ after)) ≤ bound n = held.0 n has in
       let two : 2 ≤ bound n = omega (arith, all_of, held_n, count) in
       let z : ℕ = end_of n between in
@@ -100,13 +111,15 @@ module _ (edge : ℕ → ℕ → Bool) (entry : ℕ) (loops : Loops) (bound : �
       asks.back n (end_of n between) has two (end_inside (loops.body n) n between head inside) rest.0 in
       let turn : IsBounded (labels.turn n n) (spent costs n between + ends.value) (laps loops labels n between) =
       claim (labels.turn n) n between (omega (arith, size_of)) (walk_front edge n between (n ∷ after) w) (held_front loops bound (n ∷ between) (n ∷ after) held)
-      (λ k has_k b ne. let f : first (loops.body k) k between ≤ first (loops.body k) k (between ++ n ∷ after) = first_front (loops.body k) k between (n ∷ after) in
+      (λ k has_k b ne. let f : first (loops.body k) k between ≤ first (loops.body k) k (between ++ n ∷ after) =
+      first_front (loops.body k) k between (n ∷ after) in
       let g : first (loops.body k) k (between ++ n ∷ after) ≡ 0 = calm k has_k b ne in omega (arith, f, g))
       (turn_descends n n between has two head inside (walk_front edge n between (n ∷ after) w)) ends.value ends.is in
       let on : IsBounded (label n) (spent costs n after + v) (laps loops labels n after) =
       claim label n after (omega (arith, size_of)) rest.1 (held_back loops bound (n ∷ between) (n ∷ after) held)
       (λ k has_k b ne.
-      let f : first (loops.body k) k (n ∷ after) ≤ first (loops.body k) k (between ++ n ∷ after) = first_back (loops.body k) k between (n ∷ after) (inside_outer k n between has has_k b ne inside) in
+      let f : first (loops.body k) k (n ∷ after) ≤ first (loops.body k) k (between ++ n ∷ after) =
+      first_back (loops.body k) k between (n ∷ after) (inside_outer k n between has has_k b ne inside) in
       let g : first (loops.body k) k after ≤ first (loops.body k) k (n ∷ after) = first_tail (loops.body k) k n after b in
       let z : first (loops.body k) k (between ++ n ∷ after) ≡ 0 = calm k has_k b ne in omega (arith, f, g, z))
       (descends_back loops bound costs labels label n between n after d) v (ap label (sym (end-append n n between after)) ∙ e) in
@@ -116,23 +129,35 @@ module _ (edge : ℕ → ℕ → Bool) (entry : ℕ) (loops : Loops) (bound : �
       ∙ (let f : first (loops.body n) n between ≤ passes n between = first_passes (loops.body n) n between in
       let g : first (loops.body n) n between ≡ 0 = omega (arith, f, once) in ap (λ (q : ℕ). q * turn_cost labels n) g ∙ omega arith) in
       let laps_all : laps loops labels n (between ++ n ∷ after) ≡ suc (first (loops.body n) n after) * turn.value =
-      ap (λ (b : Bool). cond b (first (loops.body n) n (between ++ n ∷ after) * turn_cost labels n) 0) has ∙ ap (λ (q : ℕ). q * turn_cost labels n) count ∙ ap (λ (q : ℕ). suc (first (loops.body n) n after) * q) t in
+      ap (λ (b : Bool). cond b (first (loops.body n) n (between ++ n ∷ after) * turn_cost labels n) 0) has
+      ∙ ap (λ (q : ℕ). q * turn_cost labels n) count ∙ ap (λ (q : ℕ). suc (first (loops.body n) n after) * q) t in
       let laps_on : laps loops labels n after ≡ first (loops.body n) n after * turn.value =
       ap (λ (b : Bool). cond b (first (loops.body n) n after * turn_cost labels n) 0) has ∙ ap (λ (q : ℕ). first (loops.body n) n after * q) t in
       let sum = spent-append costs n n between after in
-      record { value = on.value; is = on.is; least = sums_up (spent costs n between) (costs.node (end_of n between) + costs.edge (end_of n between) n) (spent costs n after) v ends.value turn.value on.value (first (loops.body n) n after) (laps loops labels n between) (laps loops labels n after) (spent costs n (between ++ n ∷ after)) (laps loops labels n (between ++ n ∷ after)) sum ends.least turn.least none on.least laps_on laps_all }
+      record {
+        value = on.value;
+        is = on.is;
+        least =
+            sums_up (spent costs n between) (costs.node (end_of n between) + costs.edge (end_of n between) n)
+            (spent costs n after) v ends.value turn.value on.value (first (loops.body n) n after) (laps loops labels n between)
+            (laps loops labels n after) (spent costs n (between ++ n ∷ after))
+            (laps loops labels n (between ++ n ∷ after)) sum ends.least turn.least none on.least laps_on laps_all;
+      }
 
   turned : (size : ℕ) → Claim edge loops bound costs labels size
       → (label : ℕ → Option ℕ) (n : ℕ) (rest : List ℕ) (s : NextPass (loops.body n) n rest) → loops.has n ≡ true → length rest ≤ suc size → IsWalk edge n rest
       → IsHeld loops bound (n ∷ rest) → IsCalm loops n rest → Descends loops bound costs labels label n rest → (v : ℕ) → label (end_of n rest) ≡ Some v
       → IsBounded (label n) (spent costs n rest + v) (laps loops labels n rest)
   turned size claim label n rest s has short w held calm d v e =
-      let P : List ℕ → Type 0 = λ l. length l ≤ suc size → IsWalk edge n l → IsHeld loops bound (n ∷ l) → IsCalm loops n l → Descends loops bound costs labels label n l
-      → label (end_of n l) ≡ Some v → first (loops.body n) n l ≡ suc (first (loops.body n) n s.after) → IsBounded (label n) (spent costs n l + v) (laps loops labels n l) in
+      let P : List ℕ → Type 0 = λ l. length l ≤ suc size → IsWalk edge n l → IsHeld loops bound (n ∷ l) → IsCalm loops n l
+      → Descends loops bound costs labels label n l
+      → label (end_of n l) ≡ Some v → first (loops.body n) n l ≡ suc (first (loops.body n) n s.after)
+      → IsBounded (label n) (spent costs n l + v) (laps loops labels n l) in
       subst P (sym s.is) (λ a b c f g h i. with_turn size claim label n s.between s.after a b c f g v h has s.inside s.once i) short w held calm d e s.count
 
   -- a step that doesn't go back to a head
-  forward_step : (n m : ℕ) (rest : List ℕ) → edge n m ≡ true → IsCalm loops n (m ∷ rest) → (loops.has n ≡ true → first (loops.body n) n (m ∷ rest) ≡ 0) → is_back loops n m ≡ false
+  forward_step : (n m : ℕ) (rest : List ℕ) → edge n m ≡ true → IsCalm loops n (m ∷ rest)
+      → (loops.has n ≡ true → first (loops.body n) n (m ∷ rest) ≡ 0) → is_back loops n m ≡ false
   forward_step n m rest w calm none = elim (tells (is_back loops n m)) [
     | inl t ↦
         let b : (loops.has m ≡ true) × (loops.body m n ≡ true) = both (loops.has m) (loops.body m n) t in
@@ -140,20 +165,24 @@ module _ (edge : ℕ → ℕ → Bool) (entry : ℕ) (loops : Loops) (bound : �
         let f : first (loops.body m) m (m ∷ rest) ≡ suc (first (loops.body m) m rest) = first_here (loops.body m) m m rest head refl in
         elim (eqb_tells n m) [
           | inl a ↦
-              let z : first (loops.body m) m (m ∷ rest) ≡ 0 = subst (λ (x : ℕ). first (loops.body x) x (m ∷ rest) ≡ 0) a.1 (none (subst (λ (x : ℕ). loops.has x ≡ true) (sym a.1) b.0)) in
+              let z : first (loops.body m) m (m ∷ rest) ≡ 0 =
+              subst (λ (x : ℕ). first (loops.body x) x (m ∷ rest) ≡ 0) a.1 (none (subst (λ (x : ℕ). loops.has x ≡ true) (sym a.1) b.0)) in
               absurd (omega (arith, f, z))
           | inr a ↦ let z : first (loops.body m) m (m ∷ rest) ≡ 0 = calm m b.0 b.1 a.1 in absurd (omega (arith, f, z))
         ]
     | inr f ↦ f
   ]
 
-  calm_on : (n m : ℕ) (rest : List ℕ) → edge n m ≡ true → IsCalm loops n (m ∷ rest) → (loops.has n ≡ true → first (loops.body n) n (m ∷ rest) ≡ 0) → IsCalm loops m rest
+  calm_on : (n m : ℕ) (rest : List ℕ) → edge n m ≡ true → IsCalm loops n (m ∷ rest) → (loops.has n ≡ true → first (loops.body n) n (m ∷ rest) ≡ 0)
+      → IsCalm loops m rest
   calm_on n m rest w calm none k has b ne =
       let f : first (loops.body k) k rest ≤ first (loops.body k) k (m ∷ rest) = first_tail (loops.body k) k m rest b in
       elim (tells (loops.body k n)) [
         | inl t ↦ elim (eqb_tells n k) [
           | inl a ↦
-              let z : first (loops.body k) k (m ∷ rest) ≡ 0 = subst (λ (x : ℕ). first (loops.body x) x (m ∷ rest) ≡ 0) a.1 (none (subst (λ (x : ℕ). loops.has x ≡ true) (sym a.1) has)) in omega (arith, f, z)
+              let z : first (loops.body k) k (m ∷ rest) ≡ 0 =
+              subst (λ (x : ℕ). first (loops.body x) x (m ∷ rest) ≡ 0) a.1 (none (subst (λ (x : ℕ). loops.has x ≡ true) (sym a.1) has)) in omega
+              (arith, f, z)
           | inr a ↦ let z : first (loops.body k) k (m ∷ rest) ≡ 0 = calm k has t a.1 in omega (arith, f, z)
         ]
         | inr o ↦ absurd (ne (ok.entered k n m has w o b))
@@ -166,9 +195,11 @@ module _ (edge : ℕ → ℕ → Bool) (entry : ℕ) (loops : Loops) (bound : �
         | inl t ↦
             let f : first (loops.body m) m (m ∷ rest) ≡ suc (first (loops.body m) m rest) = first_here (loops.body m) m m rest (ok.head m t) refl in
             let g : first (loops.body m) m (m ∷ rest) ≤ bound m = held.0 m t in
-            let a : laps loops labels m rest ≡ first (loops.body m) m rest * turn_cost labels m = ap (λ (b : Bool). cond b (first (loops.body m) m rest * turn_cost labels m) 0) t in
+            let a : laps loops labels m rest ≡ first (loops.body m) m rest * turn_cost labels m =
+            ap (λ (b : Bool). cond b (first (loops.body m) m rest * turn_cost labels m) 0) t in
             let b : laps_cost loops bound labels m ≡ (bound m - 1) * turn_cost labels m = ap (λ (b : Bool). cond b ((bound m - 1) * turn_cost labels m) 0) t in
-            let l : first (loops.body m) m rest * turn_cost labels m ≤ (bound m - 1) * turn_cost labels m = laps_within (first (loops.body m) m rest) (bound m) (turn_cost labels m) (omega (arith, f, g)) in
+            let l : first (loops.body m) m rest * turn_cost labels m ≤ (bound m - 1) * turn_cost labels m =
+            laps_within (first (loops.body m) m rest) (bound m) (turn_cost labels m) (omega (arith, f, g)) in
             omega (arith, a, b, l)
         | inr o ↦
             let a : laps loops labels m rest ≡ 0 = ap (λ (b : Bool). cond b (first (loops.body m) m rest * turn_cost labels m) 0) o in omega (arith, a)
@@ -182,8 +213,10 @@ module _ (edge : ℕ → ℕ → Bool) (entry : ℕ) (loops : Loops) (bound : �
 
   -- a walk that begins with a step that doesn't go back to a head
   with_step : (size : ℕ) → Claim edge loops bound costs labels size
-      → (label : ℕ → Option ℕ) (n m : ℕ) (rest : List ℕ) → length rest ≤ size → IsWalk edge n (m ∷ rest) → IsHeld loops bound (n ∷ m ∷ rest) → IsCalm loops n (m ∷ rest)
-      → Descends loops bound costs labels label n (m ∷ rest) → (v : ℕ) → label (end_of m rest) ≡ Some v → (loops.has n ≡ true → first (loops.body n) n (m ∷ rest) ≡ 0)
+      → (label : ℕ → Option ℕ) (n m : ℕ) (rest : List ℕ) → length rest ≤ size → IsWalk edge n (m ∷ rest) → IsHeld loops bound (n ∷ m ∷ rest)
+      → IsCalm loops n (m ∷ rest)
+      → Descends loops bound costs labels label n (m ∷ rest) → (v : ℕ) → label (end_of m rest) ≡ Some v
+      → (loops.has n ≡ true → first (loops.body n) n (m ∷ rest) ≡ 0)
       → IsBounded (label n) (spent costs n (m ∷ rest) + v) (laps loops labels n (m ∷ rest))
   with_step size claim label n m rest short w held calm d v e none =
       let forward : is_back loops n m ≡ false = forward_step n m rest w.0 calm none in
@@ -209,15 +242,22 @@ module _ (edge : ℕ → ℕ → Bool) (entry : ℕ) (loops : Loops) (bound : �
   rest_descends : (n : ℕ) (rest : List ℕ) → IsWalk edge n rest → Descends loops bound costs labels (λ m. Some (labels.rest m)) n rest
   rest_descends n [] w = tt
   rest_descends n (m ∷ rest) w = (
-    (λ forward v e. record { value = labels.rest n; is = refl; least = (let f = asks.rest n m w.0 forward in let g : labels.rest m ≡ v = some_is e in omega (arith, f, g)) }),
+    (λ forward v e. record {
+      value = labels.rest n;
+      is = refl;
+      least = (let f = asks.rest n m w.0 forward in let g : labels.rest m ≡ v = some_is e in omega (arith, f, g));
+    }),
     rest_descends m rest w.1,
   )
 
-  pub labels_bound : (rest : List ℕ) → IsWalk edge entry rest → KeepsBounds loops bound (entry ∷ rest) → cost_of costs entry rest ≤ most_from loops bound labels entry
+  -- labels bound the walks from the entry
+  pub labels_bound : (rest : List ℕ) → IsWalk edge entry rest → KeepsBounds loops bound (entry ∷ rest)
+      → cost_of costs entry rest ≤ most_from loops bound labels entry
   labels_bound rest w keeps =
       let held : IsHeld loops bound (entry ∷ rest) = held_from_keeps loops bound (entry ∷ rest) keeps in
       let b : IsBounded (Some (labels.rest entry)) (spent costs entry rest + labels.rest (end_of entry rest)) (laps loops labels entry rest) =
-      claim (length rest) (λ n. Some (labels.rest n)) entry rest (omega arith) w held (λ k has b ne. absurd (ne (ok.at_entry k has b))) (rest_descends entry rest w) (labels.rest (end_of entry rest)) refl in
+      claim (length rest) (λ n. Some (labels.rest n)) entry rest (omega arith) w held (λ k has b ne. absurd (ne (ok.at_entry k has b)))
+      (rest_descends entry rest w) (labels.rest (end_of entry rest)) refl in
       let same : labels.rest entry ≡ b.value = some_is b.is in
       let l : laps loops labels entry rest ≤ laps_cost loops bound labels entry = entry_charged entry rest held in
       let c = cost_is_spent costs entry rest in
@@ -232,7 +272,11 @@ module _ (edge : ℕ → ℕ → Bool) (entry : ℕ) (loops : Loops) (bound : �
   own_descends h n own (m ∷ rest) a w =
       let e : (edge n m ≡ true) × ((loops.body h n && loops.body h m) ≡ true) = both (edge n m) (loops.body h n && loops.body h m) w.0 in
       let i : (loops.body h n ≡ true) × (loops.body h m ≡ true) = both (loops.body h n) (loops.body h m) e.1 in (
-        (λ forward v q. record { value = own n; is = refl; least = (let f = a.rest n m i.0 i.1 e.0 forward in let g : own m ≡ v = some_is q in omega (arith, f, g)) }),
+        (λ forward v q. record {
+          value = own n;
+          is = refl;
+          least = (let f = a.rest n m i.0 i.1 e.0 forward in let g : own m ≡ v = some_is q in omega (arith, f, g));
+        }),
         own_descends h m own rest a w.1,
       )
 
@@ -254,6 +298,7 @@ module _ (edge : ℕ → ℕ → Bool) (entry : ℕ) (loops : Loops) (bound : �
     | inr a ↦ passes_other k m rest a.0 ∙ not_passed body k m rest o w.1
   ]
 
+  -- labels of a body bound the walks inside it from its head
   pub own_bound : (h : ℕ) (own : ℕ → ℕ) → loops.has h ≡ true → AreOwnLabels edge loops bound costs labels h own
       → CostAtMost (edges_inside edge (loops.body h)) h loops bound costs (laps_cost loops bound labels h + own h)
   own_bound h own has a rest w keeps =
@@ -271,5 +316,6 @@ module _ (edge : ℕ → ℕ → Bool) (entry : ℕ) (loops : Loops) (bound : �
       let x = b.least in
       omega (arith, same, l, c, d, x)
 
+-- labels of the walks inside one body that ask enough bound the cost of each walk inside it from its head
 pub own_bounds : OwnLabelsBoundWalks
 own_bounds edge entry loops bound costs labels h own ok asks has are = own_bound edge entry loops bound costs labels ok asks h own has are

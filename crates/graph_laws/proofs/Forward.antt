@@ -1,5 +1,6 @@
 -- Forward walks, walks turned round, and the beginnings of walks.
-use Rattle.std.proofs.Common.{◌≡◌, ◌≢◌, ◌==◌, ◌&&◌, ◌||◌, ◌⊎◌, ℕ, zero, suc, ◌+◌, ◌<◌, ◌≤◌, inl, inr, Bool, true, false, not, List, [], ◌∷◌, ◌++◌, reverse, length, cond, refl, sym, ap, subst, ◌∙◌, arith, append_assoc}
+use Rattle.std.proofs.Common.{◌≡◌, ◌≢◌, ◌==◌, ◌&&◌, ◌||◌, ◌⊎◌, ℕ, zero, suc, ◌+◌, ◌<◌, ◌≤◌, inl, inr, Bool, true, false, not, List, [], ◌∷◌, ◌++◌}
+use Rattle.std.proofs.Common.{reverse, length, cond, refl, sym, ap, subst, ◌∙◌, arith, append_assoc}
 use Rattle.std.proofs.lemmas.Bool.{eq-eqb}
 use Rattle.std.proofs.lemmas.List.{reverse-append}
 use Rattle.std.proofs.lemmas.Bool.Decides.{eqb_tells}
@@ -7,7 +8,8 @@ use Rattle.bt_base.specs.Graph.{has}
 use Rattle.graph_laws.specs.Walk.{IsWalk, AreInside, end_of, Costs, cost_of}
 use Rattle.graph_laws.specs.Loops.{Loops, AreLoops, is_back, IsForward, KeepsBounds, CostAtMost, edges_inside, loops_inside}
 use Rattle.graph_laws.specs.Nest.{cut, Reaches, SamePart, IsHead, Nest, IsNest, loops_of, IsReached, AreReached}
-use Rattle.graph_laws.specs.Forward.{turned, WalksTurn, HasForwardNext, SetsHaveEnds, IsReachedForward, ReachedAreReachedForward, WalksBackStay, HasTurn, HeadsHaveTurns, AreEqual, EqualLoopsAreLoops, spent_of, SpentAddsUp, PrefixesSpendLess}
+use Rattle.graph_laws.specs.Forward.{turned, WalksTurn, HasForwardNext, SetsHaveEnds, IsReachedForward, ReachedAreReachedForward, WalksBackStay}
+use Rattle.graph_laws.specs.Forward.{HasTurn, HeadsHaveTurns, AreEqual, EqualLoopsAreLoops, spent_of, SpentAddsUp, PrefixesSpendLess}
 use Rattle.graph_laws.proofs.Inner.{inner_loops}
 use Rattle.graph_laws.proofs.Stretches.{tells, both}
 use Rattle.graph_laws.proofs.Walks.{walk-append, walk_front, walk_back, walk_of_more, inside-append}
@@ -22,6 +24,7 @@ spent_whole : (costs : Costs) (n : ℕ) (rest : List ℕ) → cost_of costs n re
 spent_whole costs n [] = omega arith
 spent_whole costs n (m ∷ rest) = let e = spent_whole costs m rest in omega (arith, e)
 
+-- what a walk and what follows it have spent add up
 pub spent_sums : SpentAddsUp
 spent_sums = record {
   append = spent-append;
@@ -29,6 +32,7 @@ spent_sums = record {
   whole = spent_whole;
 }
 
+-- the beginning of a walk that keeps the head bounds keeps them, and has spent at most what no walk exceeds
 pub prefixes_less : PrefixesSpendLess
 prefixes_less edge n loops bound costs most one two at_most w keeps =
     let front : KeepsBounds loops bound (n ∷ one) = record {
@@ -50,9 +54,11 @@ turned_walk edge n m (b ∷ between) w =
     walk_on k [] v = (v.0, (w.0, tt))
     walk_on k (r ∷ rest) v = (v.0, walk_on r rest v.1)
 
+-- a walk turned round is a walk of the graph turned round
 pub walks_turned : WalksTurn
 walks_turned = turned_walk
 
+-- what is reached is reached back in the graph turned round
 pub reach_turned : (edge : ℕ → ℕ → Bool) (n m : ℕ) → Reaches edge n m → Reaches (turned edge) m n
 reach_turned edge n m r = record { between = reverse r.between; walk = turned_walk edge n m r.between r.walk }
 
@@ -91,7 +97,8 @@ record LeadsOn (edge : ℕ → ℕ → Bool) (loops : Loops) (from n : ℕ) : Ty
 nowhere : (edge : ℕ → ℕ → Bool) (loops : Loops) (n : ℕ) → LeadsOn edge loops n n
 nowhere edge loops n = record { rest = []; walk = tt; forward = tt; ends = refl }
 
-one_more : (edge : ℕ → ℕ → Bool) (loops : Loops) (from n m : ℕ) → LeadsOn edge loops from n → edge n m ≡ true → is_back loops n m ≡ false → LeadsOn edge loops from m
+one_more : (edge : ℕ → ℕ → Bool) (loops : Loops) (from n m : ℕ) → LeadsOn edge loops from n → edge n m ≡ true → is_back loops n m ≡ false
+    → LeadsOn edge loops from m
 one_more edge loops from n m l e f = record {
   rest = l.rest ++ m ∷ [];
   walk = walk-append edge from l.rest (m ∷ []) l.walk (ap (λ (x : ℕ). edge x m) l.ends ∙ e, tt);
@@ -141,7 +148,8 @@ or_right : (a b : Bool) → b ≡ true → (a || b) ≡ true
 or_right true b h = refl
 or_right false b h = h
 
-module _ (edge : ℕ → ℕ → Bool) (entry : ℕ) (nest : Nest) (is : IsNest edge entry nest) (nodes : List ℕ) (next : (n : ℕ) → has nodes n ≡ true → HasForwardNext edge (loops_of nest) nodes n) where
+module _ (edge : ℕ → ℕ → Bool) (entry : ℕ) (nest : Nest) (is : IsNest edge entry nest) (nodes : List ℕ)
+    (next : (n : ℕ) → has nodes n ≡ true → HasForwardNext edge (loops_of nest) nodes n) where
   -- a forward walk doesn't come back to a node
   not_back : (n m : ℕ) → LeadsOn edge (loops_of nest) m n → edge n m ≡ true → is_back (loops_of nest) n m ≡ false → ⊥
   not_back n m l e f =
@@ -179,6 +187,7 @@ module _ (edge : ℕ → ℕ → Bool) (entry : ℕ) (nest : Nest) (is : IsNest 
             s.inside
       ]
 
+-- where there is a nest, a finite set in which each node has a forward successor is empty
 pub sets_end : SetsHaveEnds
 sets_end edge entry nest is nodes next n = elim (tells (has nodes n)) [
   | inl t ↦ absurd (no_end edge entry nest is nodes next (length nodes) nodes (n ∷ []) n (omega arith) (λ k i. inr i)
@@ -194,7 +203,8 @@ sets_end edge entry nest is nodes next n = elim (tells (has nodes n)) [
     or_false false h = h
 
 -- a forward walk that ends in a body and begins outside it comes to its head
-come_in : (edge : ℕ → ℕ → Bool) (entry : ℕ) (loops : Loops) → AreLoops edge entry loops → (h n : ℕ) (rest : List ℕ) → loops.has h ≡ true → loops.body h n ≡ false
+come_in : (edge : ℕ → ℕ → Bool) (entry : ℕ) (loops : Loops) → AreLoops edge entry loops → (h n : ℕ) (rest : List ℕ) → loops.has h ≡ true
+    → loops.body h n ≡ false
     → IsWalk edge n rest → IsForward loops n rest → loops.body h (end_of n rest) ≡ true → LeadsOn edge loops n h
 come_in edge entry loops are h n [] a o w f i = cc
 come_in edge entry loops are h n (m ∷ rest) a o w f i = elim (tells (loops.body h m)) [
@@ -206,7 +216,8 @@ come_in edge entry loops are h n (m ∷ rest) a o w f i = elim (tells (loops.bod
       record { rest = m ∷ l.rest; walk = (w.0, l.walk); forward = (f.0, l.forward); ends = l.ends }
 ]
 
-forward_on : (edge : ℕ → ℕ → Bool) (entry : ℕ) (loops : Loops) → AreLoops edge entry loops → (n : ℕ) (rest : List ℕ) → LeadsOn edge loops entry n → IsWalk edge n rest
+forward_on : (edge : ℕ → ℕ → Bool) (entry : ℕ) (loops : Loops) → AreLoops edge entry loops → (n : ℕ) (rest : List ℕ) → LeadsOn edge loops entry n
+    → IsWalk edge n rest
     → LeadsOn edge loops entry (end_of n rest)
 forward_on edge entry loops are n [] l w = l
 forward_on edge entry loops are n (m ∷ rest) l w = elim (tells (is_back loops n m)) [
@@ -220,20 +231,24 @@ forward_on edge entry loops are n (m ∷ rest) l w = elim (tells (is_back loops 
   | inr t ↦ forward_on edge entry loops are m rest (one_more edge loops entry n m l w.0 t) w.1
 ]
 
+-- what a walk from the entry reaches, a forward walk reaches
 pub reached_forward : ReachedAreReachedForward
 reached_forward edge entry loops are n r =
     let l : LeadsOn edge loops entry (end_of entry r.rest) = forward_on edge entry loops are entry r.rest (nowhere edge loops entry) r.walk in
     record { rest = l.rest; walk = l.walk; forward = l.forward; ends = l.ends ∙ r.ends }
 
+-- a walk from a node of a body back to its head that takes no edge into an outer head stays in the body
 pub walks_stay : WalksBackStay
 walks_stay edge entry nest is h n between a i w =
     let p : SamePart (cut edge (nest.outer h)) h n = (is.body h n a).0 i in
     stays_inside edge entry nest is h n h between a p.there w (is.chain h a).2.entered.inside.there
 
 -- walks inside a body
-inside_walk : (edge : ℕ → ℕ → Bool) (body : ℕ → Bool) (n : ℕ) (rest : List ℕ) → body n ≡ true → IsWalk edge n rest → AreInside body rest → IsWalk (edges_inside edge body) n rest
+inside_walk : (edge : ℕ → ℕ → Bool) (body : ℕ → Bool) (n : ℕ) (rest : List ℕ) → body n ≡ true → IsWalk edge n rest → AreInside body rest
+    → IsWalk (edges_inside edge body) n rest
 inside_walk edge body n [] b w i = tt
-inside_walk edge body n (m ∷ rest) b w i = (two_true (edge n m) (body n && body m) w.0 (two_true (body n) (body m) b i.0), inside_walk edge body m rest i.0 w.1 i.1)
+inside_walk edge body n (m ∷ rest) b w i =
+    (two_true (edge n m) (body n && body m) w.0 (two_true (body n) (body m) b i.0), inside_walk edge body m rest i.0 w.1 i.1)
 
 walk_inside : (edge : ℕ → ℕ → Bool) (body : ℕ → Bool) (n : ℕ) (rest : List ℕ) → IsWalk (edges_inside edge body) n rest → AreInside body rest
 walk_inside edge body n [] w = tt
@@ -248,6 +263,7 @@ forward_out loops h n (m ∷ rest) f i = (off (loops.has m) (loops.body h m) (lo
     off true false c g j = cc
     off false b c g j = refl
 
+-- each head of a nest has a turn: a forward walk inside its body and an edge back
 pub heads_turn : HeadsHaveTurns
 heads_turn edge entry nest is reached h a =
     let loops : Loops = loops_of nest in
@@ -256,7 +272,8 @@ heads_turn edge entry nest is reached h a =
     let here : nest.body h h ≡ true = head_inside edge entry nest is h a in
     let between : List ℕ = itself.there.between in
     let stay : AreInside (nest.body h) between = walks_stay edge entry nest is h h between a here itself.there.walk in
-    let w : IsWalk edge h (between ++ h ∷ []) = walk_of_more (cut edge (nest.outer h)) edge (cut_edge edge (nest.outer h)) h (between ++ h ∷ []) itself.there.walk in
+    let w : IsWalk edge h (between ++ h ∷ []) =
+    walk_of_more (cut edge (nest.outer h)) edge (cut_edge edge (nest.outer h)) h (between ++ h ∷ []) itself.there.walk in
     let r : IsReached (edges_inside edge (nest.body h)) h (end_of h between) =
     record { rest = between; walk = inside_walk edge (nest.body h) h between here (walk_front edge h between (h ∷ []) w) stay; ends = refl } in
     let f : IsReachedForward (edges_inside edge (nest.body h)) (loops_inside loops h) h (end_of h between) =

@@ -4,6 +4,8 @@ use Rattle.std.proofs.lemmas.Bool.Decides.{eqb_tells}
 use Rattle.graph_laws.specs.Labels.{LoopsInsideAreLoops}
 use Rattle.graph_laws.proofs.Stretches.{both}
 
+-- inside a body the loops are those of the graph of its nodes, entered at its head; so what holds of walks from the entry
+-- holds of walks inside the body from its head
 pub inner_loops : LoopsInsideAreLoops
 inner_loops edge entry loops h ok has = record {
   head = λ k a. ok.head k (both (loops.has k) (loops.body h k) a).0;

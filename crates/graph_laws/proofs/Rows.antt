@@ -14,6 +14,7 @@ use Rattle.bt_base.proofs.Rows.{rising_apart}
 other : (x y : ℕ) → x ≢ y → (x == y) ≡ false
 other x y ne = elim (eqb_tells x y) [ inl a ↦ absurd (ne a.1) | inr a ↦ a.0 ]
 
+-- a search finds exactly what rising numbers have
 pub found_is_there : (xs : List ℕ) (x : ℕ) (r : Result ℕ ℕ) → IsStrictlyIncreasing xs → IsBinarySearchResult (λ y. nat_cmp y x) xs r → is_ok r ≡ has xs x
 found_is_there xs x (Ok i) up s =
     let found = searched xs x (Ok i) s (rising_apart xs up) in

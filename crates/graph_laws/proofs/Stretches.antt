@@ -6,10 +6,12 @@ use Rattle.graph_laws.specs.Walk.{AreInside, passes}
 use Rattle.graph_laws.specs.Loops.{Loops, KeepsBounds}
 use Rattle.graph_laws.proofs.Walks.{passes_other}
 
+-- a truth value is true or false
 pub tells : (b : Bool) → (b ≡ true) ⊎ (b ≡ false)
 tells true = inl refl
 tells false = inr refl
 
+-- both tests hold where both together do
 pub both : (a b : Bool) → (a && b) ≡ true → (a ≡ true) × (b ≡ true)
 both true b h = (refl, h)
 both false b h = cc
@@ -22,14 +24,17 @@ first body h (n ∷ rest) = cond (body n) (cond (n == h) 1 0 + first body h rest
 pub first_in : (body : ℕ → Bool) (h n : ℕ) (rest : List ℕ) → body n ≡ true → first body h (n ∷ rest) ≡ cond (n == h) 1 0 + first body h rest
 first_in body h n rest e = ap (λ (b : Bool). cond b (cond (n == h) 1 0 + first body h rest) 0) e
 
+-- a node outside ends the stretch
 pub first_out : (body : ℕ → Bool) (h n : ℕ) (rest : List ℕ) → body n ≡ false → first body h (n ∷ rest) ≡ 0
 first_out body h n rest e = ap (λ (b : Bool). cond b (cond (n == h) 1 0 + first body h rest) 0) e
 
+-- the head adds a pass
 pub first_here : (body : ℕ → Bool) (h n : ℕ) (rest : List ℕ) → body n ≡ true → n ≡ h → first body h (n ∷ rest) ≡ suc (first body h rest)
 first_here body h n rest b e =
     let f : first body h (n ∷ rest) ≡ cond (n == h) 1 0 + first body h rest = first_in body h n rest b in
     let g : ◌≡◌ {A = ℕ} (cond (n == h) 1 0) 1 = ap (λ (t : Bool). cond t 1 0) (eq-eqb n h e) in omega (arith, f, g)
 
+-- another node of the body adds no pass
 pub first_other : (body : ℕ → Bool) (h n : ℕ) (rest : List ℕ) → body n ≡ true → (n == h) ≡ false → first body h (n ∷ rest) ≡ first body h rest
 first_other body h n rest b e =
     let f : first body h (n ∷ rest) ≡ cond (n == h) 1 0 + first body h rest = first_in body h n rest b in
@@ -39,6 +44,7 @@ first_other body h n rest b e =
 pub first_tail : (body : ℕ → Bool) (h n : ℕ) (rest : List ℕ) → body n ≡ true → first body h rest ≤ first body h (n ∷ rest)
 first_tail body h n rest b = let f : first body h (n ∷ rest) ≡ cond (n == h) 1 0 + first body h rest = first_in body h n rest b in omega (arith, f)
 
+-- the stretch of the front is within that of the whole
 pub first_front : (body : ℕ → Bool) (h : ℕ) (xs ys : List ℕ) → first body h xs ≤ first body h (xs ++ ys)
 first_front body h [] ys = omega arith
 first_front body h (x ∷ xs) ys = elim (tells (body x)) [
@@ -50,12 +56,14 @@ first_front body h (x ∷ xs) ys = elim (tells (body x)) [
   | inr f ↦ let a : first body h (x ∷ xs) ≡ 0 = first_out body h x xs f in omega (arith, a)
 ]
 
+-- a list inside the body only lengthens the stretch
 pub first_back : (body : ℕ → Bool) (h : ℕ) (xs ys : List ℕ) → AreInside body xs → first body h ys ≤ first body h (xs ++ ys)
 first_back body h [] ys i = omega arith
 first_back body h (x ∷ xs) ys i =
     let a : first body h (xs ++ ys) ≤ first body h ((x ∷ xs) ++ ys) = first_tail body h x (xs ++ ys) i.0 in
     let b : first body h ys ≤ first body h (xs ++ ys) = first_back body h xs ys i.1 in omega (arith, a, b)
 
+-- the passes of the first stretch are within all
 pub first_passes : (body : ℕ → Bool) (h : ℕ) (xs : List ℕ) → first body h xs ≤ passes h xs
 first_passes body h [] = omega arith
 first_passes body h (x ∷ xs) = elim (tells (body x)) [
@@ -66,6 +74,7 @@ first_passes body h (x ∷ xs) = elim (tells (body x)) [
   | inr f ↦ let a : first body h (x ∷ xs) ≡ 0 = first_out body h x xs f in omega (arith, a)
 ]
 
+-- the passes of a list inside the body are within the stretch
 pub passes_first : (body : ℕ → Bool) (h : ℕ) (xs ys : List ℕ) → AreInside body xs → passes h xs ≤ first body h (xs ++ ys)
 passes_first body h [] ys i = omega arith
 passes_first body h (x ∷ xs) ys i =
@@ -81,6 +90,7 @@ pub record NextPass (body : ℕ → Bool) (h : ℕ) (rest : List ℕ) : Type 0 w
   pub once : passes h between ≡ 0
   pub count : first body h rest ≡ suc (first body h after)
 
+-- a stretch passes the head no more, or there is a next pass
 pub next_pass : (body : ℕ → Bool) (h : ℕ) (rest : List ℕ) → (first body h rest ≡ 0) ⊎ NextPass body h rest
 next_pass body h [] = inl refl
 next_pass body h (n ∷ rest) = elim (tells (body n)) [
@@ -132,6 +142,7 @@ IsHeld loops bound (n ∷ rest) = ((h : ℕ) → loops.has h ≡ true → first 
 keeps_tail : (loops : Loops) (bound : ℕ → ℕ) (n : ℕ) (rest : List ℕ) → KeepsBounds loops bound (n ∷ rest) → KeepsBounds loops bound rest
 keeps_tail loops bound n rest k = record { kept = λ h before stretch after has e i. k.kept h (n ∷ before) stretch after has (ap (λ (l : List ℕ). n ∷ l) e) i }
 
+-- a walk that keeps the head bounds has its stretches bounded one by one
 pub held_from_keeps : (loops : Loops) (bound : ℕ → ℕ) (walk : List ℕ) → KeepsBounds loops bound walk → IsHeld loops bound walk
 held_from_keeps loops bound [] k = tt
 held_from_keeps loops bound (n ∷ rest) k = (
@@ -140,16 +151,20 @@ held_from_keeps loops bound (n ∷ rest) k = (
   held_from_keeps loops bound rest (keeps_tail loops bound n rest k),
 )
 
-held_at : (loops : Loops) (bound : ℕ → ℕ) (h : ℕ) (before stretch after : List ℕ) → loops.has h ≡ true → IsHeld loops bound (before ++ (stretch ++ after)) → AreInside (loops.body h) stretch → passes h stretch ≤ bound h
+held_at : (loops : Loops) (bound : ℕ → ℕ) (h : ℕ) (before stretch after : List ℕ) → loops.has h ≡ true
+    → IsHeld loops bound (before ++ (stretch ++ after)) → AreInside (loops.body h) stretch → passes h stretch ≤ bound h
 held_at loops bound h [] [] after has k i = omega arith
 held_at loops bound h [] (x ∷ xs) after has k i =
     let a : passes h (x ∷ xs) ≤ first (loops.body h) h ((x ∷ xs) ++ after) = passes_first (loops.body h) h (x ∷ xs) after i in
     let b : first (loops.body h) h ((x ∷ xs) ++ after) ≤ bound h = k.0 h has in omega (arith, a, b)
 held_at loops bound h (b ∷ before) stretch after has k i = held_at loops bound h before stretch after has k.1 i
 
+-- a walk whose stretches are bounded one by one keeps the head bounds
 pub keeps_from_held : (loops : Loops) (bound : ℕ → ℕ) (walk : List ℕ) → IsHeld loops bound walk → KeepsBounds loops bound walk
-keeps_from_held loops bound walk k = record { kept = λ h before stretch after has e i. held_at loops bound h before stretch after has (subst (IsHeld loops bound) (sym e) k) i }
+keeps_from_held loops bound walk k = record
+    { kept = λ h before stretch after has e i. held_at loops bound h before stretch after has (subst (IsHeld loops bound) (sym e) k) i }
 
+-- the front of such a walk is one
 pub held_front : (loops : Loops) (bound : ℕ → ℕ) (xs ys : List ℕ) → IsHeld loops bound (xs ++ ys) → IsHeld loops bound xs
 held_front loops bound [] ys k = tt
 held_front loops bound (x ∷ xs) ys k = (
@@ -158,10 +173,12 @@ held_front loops bound (x ∷ xs) ys k = (
   held_front loops bound xs ys k.1,
 )
 
+-- the rest of such a walk is one
 pub held_back : (loops : Loops) (bound : ℕ → ℕ) (xs ys : List ℕ) → IsHeld loops bound (xs ++ ys) → IsHeld loops bound ys
 held_back loops bound [] ys k = k
 held_back loops bound (x ∷ xs) ys k = held_back loops bound xs ys k.1
 
+-- the passes of the first stretch of two lists are at most those of both
 pub first-append : (body : ℕ → Bool) (h : ℕ) (xs ys : List ℕ) → first body h (xs ++ ys) ≤ first body h xs + first body h ys
 first-append body h [] ys = omega arith
 first-append body h (x ∷ xs) ys = elim (tells (body x)) [
@@ -173,6 +190,7 @@ first-append body h (x ∷ xs) ys = elim (tells (body x)) [
   | inr f ↦ let a : first body h ((x ∷ xs) ++ ys) ≡ 0 = first_out body h x (xs ++ ys) f in omega (arith, a)
 ]
 
+-- a list inside the body adds its passes to the stretch
 pub first_inside : (body : ℕ → Bool) (h : ℕ) (xs ys : List ℕ) → AreInside body xs → first body h (xs ++ ys) ≡ passes h xs + first body h ys
 first_inside body h [] ys i = omega arith
 first_inside body h (x ∷ xs) ys i =
@@ -181,11 +199,13 @@ first_inside body h (x ∷ xs) ys i =
 
 -- two walks one after the other are held where each head is not passed in the one or in the other
 pub held-append : (loops : Loops) (bound : ℕ → ℕ) (xs ys : List ℕ) → IsHeld loops bound xs → IsHeld loops bound ys
-    → ((h : ℕ) → loops.has h ≡ true → (first (loops.body h) h ys ≡ 0) ⊎ ((passes h xs ≡ 0) × (first (loops.body h) h ys ≤ bound h))) → IsHeld loops bound (xs ++ ys)
+    → ((h : ℕ) → loops.has h ≡ true → (first (loops.body h) h ys ≡ 0) ⊎ ((passes h xs ≡ 0) × (first (loops.body h) h ys ≤ bound h)))
+    → IsHeld loops bound (xs ++ ys)
 held-append loops bound [] ys a b c = b
 held-append loops bound (x ∷ xs) ys a b c = (
   (λ h has.
-      let f : first (loops.body h) h ((x ∷ xs) ++ ys) ≤ first (loops.body h) h (x ∷ xs) + first (loops.body h) h ys = first-append (loops.body h) h (x ∷ xs) ys in
+      let f : first (loops.body h) h ((x ∷ xs) ++ ys) ≤ first (loops.body h) h (x ∷ xs) + first (loops.body h) h ys =
+      first-append (loops.body h) h (x ∷ xs) ys in
       elim (c h has) [
         | inl z ↦ let g : first (loops.body h) h (x ∷ xs) ≤ bound h = a.0 h has in omega (arith, f, g, z)
         | inr p ↦

@@ -4,7 +4,8 @@ use Rattle.std.proofs.lemmas.Bool.{eq-eqb}
 use Rattle.std.proofs.lemmas.Bool.Decides.{eqb_tells}
 use Rattle.graph_laws.specs.Walk.{IsWalk, AreInside, passes, end_of}
 use Rattle.graph_laws.specs.Loops.{Loops, AreLoops, is_back}
-use Rattle.graph_laws.specs.Counter.{Changes, turn_up, turn_down, IsSumFrom, AreChosenSums, HasTurn, InnerLoopsKeep, ChosenSumsAreAttained, ForwardSumsRise, ForwardSumsFall}
+use Rattle.graph_laws.specs.Counter.{Changes, turn_up, turn_down, IsSumFrom, AreChosenSums, HasTurn, InnerLoopsKeep, ChosenSumsAreAttained}
+use Rattle.graph_laws.specs.Counter.{ForwardSumsRise, ForwardSumsFall}
 use Rattle.graph_laws.proofs.Walks.{passes_other, passes-append, inside-append, walk-append, end-append}
 use Rattle.graph_laws.proofs.Counters.{sum-snoc}
 use Rattle.graph_laws.proofs.Stretches.{tells, both}
@@ -38,7 +39,8 @@ module _ (edge : ℕ → ℕ → Bool) (loops : Loops) (head : ℕ) (changes : C
           walk = walk-append edge head p.between (n ∷ []) p.walk (subst (λ (z : ℕ). IsWalk edge z (n ∷ [])) (sym p.ends) (s.leads, tt));
           ends = end-append head n p.between [];
           inside = inside-append (loops.body head) p.between (n ∷ []) p.inside (i, tt);
-          once = passes-append head p.between (n ∷ []) ∙ (let q = p.once in let r : passes head (n ∷ []) ≡ 0 = passes_other head n [] a.0 in omega (arith, q, r));
+          once = passes-append head p.between (n ∷ [])
+              ∙ (let q = p.once in let r : passes head (n ∷ []) ≡ 0 = passes_other head n [] a.0 in omega (arith, q, r));
           sum = omega (arith, u, d, x, y);
         }
   ]
@@ -56,11 +58,13 @@ module _ (edge : ℕ → ℕ → Bool) (loops : Loops) (head : ℕ) (changes : C
         sum = p.sum;
       }
 
+-- labels of sums that are each what some edge gives are sums of turns: the least of them is the least sum
 pub chosen_sums : ChosenSumsAreAttained
 chosen_sums edge loops head changes label rank at_head chosen = sums_attained edge loops head changes label rank at_head chosen
 
 module _ (edge : ℕ → ℕ → Bool) (entry : ℕ) (loops : Loops) (head : ℕ) (changes : Changes) (label : ℕ → ℕ) (rank : ℕ → ℕ)
-    (ok : AreLoops edge entry loops) (has : loops.has head ≡ true) (keep : InnerLoopsKeep loops head changes) (chosen : AreChosenSums edge loops head changes label rank) where
+    (ok : AreLoops edge entry loops) (has : loops.has head ≡ true) (keep : InnerLoopsKeep loops head changes)
+    (chosen : AreChosenSums edge loops head changes label rank) where
   -- along an inner loop the label stays that of its head
   label_kept : (size k n : ℕ) → rank n < size → loops.has k ≡ true → loops.body head k ≡ true → head ≢ k → loops.body k n ≡ true → label n ≡ label k
   label_kept zero k n low h i ne b = absurd (omega arith)
@@ -90,6 +94,7 @@ module _ (edge : ℕ → ℕ → Bool) (entry : ℕ) (loops : Loops) (head : ℕ
       let ne : head ≢ m = λ e. (let q : (m == head) ≡ true = eq-eqb m head (sym e) in cc) in
       (label_kept (suc (rank n)) m n (omega arith) b.0 j ne b.1, keep m n b.0 j ne b.1)
 
+-- where no inner loop changes the cell, labels that meet the checks on the edges but those back to heads meet them on all
 pub forward_rise : ForwardSumsRise
 forward_rise edge entry loops head changes step label rank ok has keep chosen on end = record {
   on = λ n m i j e z. elim (tells (is_back loops n m)) [
@@ -101,6 +106,7 @@ forward_rise edge entry loops head changes step label rank ok has keep chosen on
   end = end;
 }
 
+-- the same of a cell that falls
 pub forward_fall : ForwardSumsFall
 forward_fall edge entry loops head changes step label rank ok has keep chosen on end = record {
   on = λ n m i j e z. elim (tells (is_back loops n m)) [

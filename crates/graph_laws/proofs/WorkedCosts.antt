@@ -6,7 +6,9 @@ use Rattle.std.proofs.Common.{◌≡◌, ◌≢◌, ◌==◌, ◌⊎◌, ℕ, ze
 use Rattle.graph_laws.specs.Loops.{AreLoops, is_back, edges_inside, IsForward}
 use Rattle.graph_laws.specs.Labels.{Labels, step_cost, IsAtLeast, AreLabels, IsAsked, AreChosen}
 use Rattle.graph_laws.specs.Nest.{loops_of}
-use Rattle.graph_laws.specs.Worked.{ones, two_nodes, below_two, two_loops, LoopOfTwoCostsSix, nested, nested_body, nested_nest, nested_bound, NestedLoopsCostFourteen, InnerLoopCostsSix, one_up, CounterMeetsItsBound, nested_turns, nested_turn_walk, nested_turn_cost, CollapsedWalkCostsFourteen}
+use Rattle.graph_laws.specs.Worked.{ones, two_nodes, below_two, two_loops, LoopOfTwoCostsSix, nested, nested_body, nested_nest, nested_bound}
+use Rattle.graph_laws.specs.Worked.{NestedLoopsCostFourteen, InnerLoopCostsSix, one_up, CounterMeetsItsBound, nested_turns, nested_turn_walk}
+use Rattle.graph_laws.specs.Worked.{nested_turn_cost, CollapsedWalkCostsFourteen}
 use Rattle.graph_laws.specs.WorkedNests.{LoopOfTwoHasLabels}
 use Rattle.graph_laws.proofs.Attained.{chosen_greatest, own_greatest}
 use Rattle.graph_laws.proofs.Counters.{rising_sums}
@@ -30,7 +32,8 @@ two_head : (h : ℕ) → two_loops.has h ≡ true → two_loops.body h h ≡ tru
 two_head zero a = refl
 two_head (suc h) a = cc
 
-two_within : (h k n : ℕ) → two_loops.has h ≡ true → two_loops.has k ≡ true → two_loops.body k h ≡ true → h ≢ k → two_loops.body h n ≡ true → two_loops.body k n ≡ true
+two_within : (h k n : ℕ) → two_loops.has h ≡ true → two_loops.has k ≡ true → two_loops.body k h ≡ true → h ≢ k → two_loops.body h n ≡ true
+    → two_loops.body k n ≡ true
 two_within zero zero n a b i ne j = j
 two_within (suc h) k n a b i ne j = cc
 two_within zero (suc k) n a b i ne j = cc
@@ -76,7 +79,8 @@ two_falls (suc zero) zero e f = cc
 two_falls (suc zero) (suc m) e f = cc
 two_falls (suc (suc n)) m e f = cc
 
-two_turns : (h n m v : ℕ) → two_loops.has h ≡ true → 2 ≤ 3 → two_loops.body h n ≡ true → two_loops.body h m ≡ true → two_nodes n m ≡ true → is_back two_loops n m ≡ false
+two_turns : (h n m v : ℕ) → two_loops.has h ≡ true → 2 ≤ 3 → two_loops.body h n ≡ true → two_loops.body h m ≡ true → two_nodes n m ≡ true
+    → is_back two_loops n m ≡ false
     → two_turn h m ≡ Some v → IsAtLeast (two_turn h n) (step_cost two_loops (λ _. 3) ones two_labels n m + v)
 two_turns zero zero zero v a t i j e f l = cc
 two_turns zero zero (suc zero) v a t i j e f l = record { value = 2; is = refl; least = (let q : 1 ≡ v = some_is l in omega (arith, q)) }
@@ -86,7 +90,8 @@ two_turns zero (suc zero) (suc m) v a t i j e f l = cc
 two_turns zero (suc (suc n)) m v a t i j e f l = cc
 two_turns (suc h) n m v a t i j e f l = cc
 
-two_backs : (h n : ℕ) → two_loops.has h ≡ true → 2 ≤ 3 → two_loops.body h n ≡ true → two_nodes n h ≡ true → IsAtLeast (two_turn h n) (ones.node n + ones.edge n h)
+two_backs : (h n : ℕ) → two_loops.has h ≡ true → 2 ≤ 3 → two_loops.body h n ≡ true → two_nodes n h ≡ true
+    → IsAtLeast (two_turn h n) (ones.node n + ones.edge n h)
 two_backs zero zero a t i e = cc
 two_backs zero (suc zero) a t i e = record { value = 1; is = refl; least = omega arith }
 two_backs zero (suc (suc n)) a t i e = cc
@@ -100,7 +105,8 @@ two_chosen_rest zero = inr (record { next = 1; asked = 1; leads = refl; forward 
 two_chosen_rest (suc n) = inl refl
 
 two_chosen_turn : (h n v : ℕ) → two_loops.has h ≡ true → two_loops.body h n ≡ true → two_turn h n ≡ Some v
-    → ((two_nodes n h ≡ true) × (v ≡ ones.node n + ones.edge n h)) ⊎ IsAsked (edges_inside two_nodes (two_loops.body h)) two_loops (λ _. 3) ones two_labels two_rank (two_turn h) n v
+    → ((two_nodes n h ≡ true) × (v ≡ ones.node n + ones.edge n h))
+    ⊎ IsAsked (edges_inside two_nodes (two_loops.body h)) two_loops (λ _. 3) ones two_labels two_rank (two_turn h) n v
 two_chosen_turn zero zero v a i l = inr (record { next = 1; asked = 1; leads = refl; forward = refl; lower = omega arith; label = refl; is = sym (some_is l) })
 two_chosen_turn zero (suc zero) v a i l = inl (refl, sym (some_is l))
 two_chosen_turn zero (suc (suc n)) v a i l = cc
@@ -109,9 +115,12 @@ two_chosen_turn (suc h) n v a i l = cc
 two_chosen : AreChosen two_nodes two_loops (λ _. 3) ones two_labels two_rank
 two_chosen = record { rest = two_chosen_rest; turn = two_chosen_turn }
 
+-- a loop of two nodes whose head is passed at most three times, with an exit from its head, costs six where each node
+-- costs one
 pub two_cost : LoopOfTwoCostsSix
 two_cost = chosen_greatest two_nodes 0 two_loops (λ _. 3) ones two_labels two_rank two_are_loops (λ h a. omega arith) two_are_labels two_chosen
 
+-- the loop of two nodes has labels that ask enough, each what some edge asks, and they say six
 pub two_has_labels : LoopOfTwoHasLabels
 two_has_labels = record { labels = two_labels; rank = two_rank; asked = two_are_labels; chosen = two_chosen; says = refl }
 
@@ -151,7 +160,8 @@ nested_node zero = omega arith
 nested_node (suc zero) = omega arith
 nested_node (suc (suc n)) = omega arith
 
-nested_falls : (n m : ℕ) → nested n m ≡ true → is_back (loops_of nested_nest) n m ≡ false → step_cost (loops_of nested_nest) nested_bound ones nested_labels n m + nested_rest m ≤ nested_rest n
+nested_falls : (n m : ℕ) → nested n m ≡ true → is_back (loops_of nested_nest) n m ≡ false
+    → step_cost (loops_of nested_nest) nested_bound ones nested_labels n m + nested_rest m ≤ nested_rest n
 nested_falls zero zero e f = cc
 nested_falls zero (suc zero) e f = omega arith
 nested_falls zero (suc (suc m)) e f = cc
@@ -164,7 +174,8 @@ nested_falls (suc (suc zero)) (suc zero) e f = cc
 nested_falls (suc (suc zero)) (suc (suc m)) e f = cc
 nested_falls (suc (suc (suc n))) m e f = cc
 
-nested_turn_asks : (h n m v : ℕ) → nested_nest.has h ≡ true → 2 ≤ nested_bound h → nested_body h n ≡ true → nested_body h m ≡ true → nested n m ≡ true → is_back (loops_of nested_nest) n m ≡ false
+nested_turn_asks : (h n m v : ℕ) → nested_nest.has h ≡ true → 2 ≤ nested_bound h → nested_body h n ≡ true → nested_body h m ≡ true
+    → nested n m ≡ true → is_back (loops_of nested_nest) n m ≡ false
     → nested_turn h m ≡ Some v → IsAtLeast (nested_turn h n) (step_cost (loops_of nested_nest) nested_bound ones nested_labels n m + v)
 nested_turn_asks zero zero zero v a t i j e f l = cc
 nested_turn_asks zero zero (suc zero) v a t i j e f l = record { value = 7; is = refl; least = (let q : 2 ≡ v = some_is l in omega (arith, q)) }
@@ -180,7 +191,8 @@ nested_turn_asks zero (suc (suc (suc n))) m v a t i j e f l = cc
 nested_turn_asks (suc zero) zero m v a t i j e f l = cc
 nested_turn_asks (suc zero) (suc zero) zero v a t i j e f l = cc
 nested_turn_asks (suc zero) (suc zero) (suc zero) v a t i j e f l = cc
-nested_turn_asks (suc zero) (suc zero) (suc (suc zero)) v a t i j e f l = record { value = 2; is = refl; least = (let q : 1 ≡ v = some_is l in omega (arith, q)) }
+nested_turn_asks (suc zero) (suc zero) (suc (suc zero)) v a t i j e f l =
+    record { value = 2; is = refl; least = (let q : 1 ≡ v = some_is l in omega (arith, q)) }
 nested_turn_asks (suc zero) (suc zero) (suc (suc (suc m))) v a t i j e f l = cc
 nested_turn_asks (suc zero) (suc (suc zero)) zero v a t i j e f l = cc
 nested_turn_asks (suc zero) (suc (suc zero)) (suc zero) v a t i j e f l = cc
@@ -188,7 +200,8 @@ nested_turn_asks (suc zero) (suc (suc zero)) (suc (suc m)) v a t i j e f l = cc
 nested_turn_asks (suc zero) (suc (suc (suc n))) m v a t i j e f l = cc
 nested_turn_asks (suc (suc h)) n m v a t i j e f l = cc
 
-nested_backs : (h n : ℕ) → nested_nest.has h ≡ true → 2 ≤ nested_bound h → nested_body h n ≡ true → nested n h ≡ true → IsAtLeast (nested_turn h n) (ones.node n + ones.edge n h)
+nested_backs : (h n : ℕ) → nested_nest.has h ≡ true → 2 ≤ nested_bound h → nested_body h n ≡ true → nested n h ≡ true
+    → IsAtLeast (nested_turn h n) (ones.node n + ones.edge n h)
 nested_backs zero zero a t i e = cc
 nested_backs zero (suc zero) a t i e = cc
 nested_backs zero (suc (suc zero)) a t i e = record { value = 1; is = refl; least = omega arith }
@@ -202,19 +215,24 @@ nested_backs (suc (suc h)) n a t i e = cc
 nested_are_labels : AreLabels nested (loops_of nested_nest) nested_bound ones nested_labels
 nested_are_labels = record { node = nested_node; rest = nested_falls; turn = nested_turn_asks; back = nested_backs }
 
-nested_chosen_rest : (n : ℕ) → (nested_rest n ≡ ones.node n) ⊎ IsAsked nested (loops_of nested_nest) nested_bound ones nested_labels nested_rank (λ m. Some (nested_rest m)) n (nested_rest n)
+nested_chosen_rest : (n : ℕ) → (nested_rest n ≡ ones.node n)
+    ⊎ IsAsked nested (loops_of nested_nest) nested_bound ones nested_labels nested_rank (λ m. Some (nested_rest m)) n (nested_rest n)
 nested_chosen_rest zero = inr (record { next = 1; asked = 2; leads = refl; forward = refl; lower = omega arith; label = refl; is = refl })
 nested_chosen_rest (suc zero) = inr (record { next = 2; asked = 1; leads = refl; forward = refl; lower = omega arith; label = refl; is = refl })
 nested_chosen_rest (suc (suc n)) = inl refl
 
 nested_chosen_turn : (h n v : ℕ) → nested_nest.has h ≡ true → nested_body h n ≡ true → nested_turn h n ≡ Some v
-    → ((nested n h ≡ true) × (v ≡ ones.node n + ones.edge n h)) ⊎ IsAsked (edges_inside nested (nested_body h)) (loops_of nested_nest) nested_bound ones nested_labels nested_rank (nested_turn h) n v
-nested_chosen_turn zero zero v a i l = inr (record { next = 1; asked = 2; leads = refl; forward = refl; lower = omega arith; label = refl; is = sym (some_is l) })
-nested_chosen_turn zero (suc zero) v a i l = inr (record { next = 2; asked = 1; leads = refl; forward = refl; lower = omega arith; label = refl; is = sym (some_is l) })
+    → ((nested n h ≡ true) × (v ≡ ones.node n + ones.edge n h))
+    ⊎ IsAsked (edges_inside nested (nested_body h)) (loops_of nested_nest) nested_bound ones nested_labels nested_rank (nested_turn h) n v
+nested_chosen_turn zero zero v a i l =
+    inr (record { next = 1; asked = 2; leads = refl; forward = refl; lower = omega arith; label = refl; is = sym (some_is l) })
+nested_chosen_turn zero (suc zero) v a i l =
+    inr (record { next = 2; asked = 1; leads = refl; forward = refl; lower = omega arith; label = refl; is = sym (some_is l) })
 nested_chosen_turn zero (suc (suc zero)) v a i l = inl (refl, sym (some_is l))
 nested_chosen_turn zero (suc (suc (suc n))) v a i l = cc
 nested_chosen_turn (suc zero) zero v a i l = cc
-nested_chosen_turn (suc zero) (suc zero) v a i l = inr (record { next = 2; asked = 1; leads = refl; forward = refl; lower = omega arith; label = refl; is = sym (some_is l) })
+nested_chosen_turn (suc zero) (suc zero) v a i l =
+    inr (record { next = 2; asked = 1; leads = refl; forward = refl; lower = omega arith; label = refl; is = sym (some_is l) })
 nested_chosen_turn (suc zero) (suc (suc zero)) v a i l = inl (refl, sym (some_is l))
 nested_chosen_turn (suc zero) (suc (suc (suc n))) v a i l = cc
 nested_chosen_turn (suc (suc h)) n v a i l = cc
@@ -226,8 +244,10 @@ nested_bounded : (h : ℕ) → nested_nest.has h ≡ true → 1 ≤ nested_bound
 nested_bounded zero a = omega arith
 nested_bounded (suc h) a = omega arith
 
+-- two nested loops, with two passes of the outer head and three of the inner: fourteen
 pub nested_cost : NestedLoopsCostFourteen
-nested_cost = chosen_greatest nested 0 (loops_of nested_nest) nested_bound ones nested_labels nested_rank nested_are_loops nested_bounded nested_are_labels nested_chosen
+nested_cost = chosen_greatest nested 0
+    (loops_of nested_nest) nested_bound ones nested_labels nested_rank nested_are_loops nested_bounded nested_are_labels nested_chosen
 
 -- the inner loop's own labels
 abbrev own_rest : ℕ → ℕ
@@ -253,13 +273,16 @@ own_falls (suc (suc zero)) (suc (suc m)) i j e f = cc
 own_falls (suc (suc (suc n))) m i j e f = cc
 
 own_chosen : (n : ℕ) → nested_body 1 n ≡ true
-    → (own_rest n ≡ ones.node n) ⊎ IsAsked (edges_inside nested (nested_body 1)) (loops_of nested_nest) nested_bound ones nested_labels nested_rank (λ m. Some (own_rest m)) n (own_rest n)
+    → (own_rest n ≡ ones.node n) ⊎ IsAsked (edges_inside nested (nested_body 1)) (loops_of nested_nest) nested_bound ones nested_labels nested_rank
+    (λ m. Some (own_rest m)) n (own_rest n)
 own_chosen zero i = cc
 own_chosen (suc zero) i = inr (record { next = 2; asked = 1; leads = refl; forward = refl; lower = omega arith; label = refl; is = refl })
 own_chosen (suc (suc n)) i = inl refl
 
+-- the inner loop's own cost: six
 pub inner_cost : InnerLoopCostsSix
-inner_cost = own_greatest nested 0 (loops_of nested_nest) nested_bound ones nested_labels nested_rank 1 own_rest nested_are_loops nested_bounded nested_are_labels nested_chosen refl
+inner_cost = own_greatest nested 0 (loops_of nested_nest) nested_bound ones nested_labels nested_rank 1 own_rest nested_are_loops nested_bounded
+    nested_are_labels nested_chosen refl
     (record { node = own_node; rest = own_falls }) (record { rest = own_chosen })
 
 -- a counter along the loop of two nodes
@@ -271,6 +294,7 @@ two_sum_end zero i e = cc
 two_sum_end (suc zero) i e = omega arith
 two_sum_end (suc (suc n)) i e = cc
 
+-- a counter from 0 to 3 that rises by one in each turn, along a walk that passes the head four times
 pub meets_its_bound : CounterMeetsItsBound
 meets_its_bound = record {
   counted = record {
@@ -317,7 +341,8 @@ turns_forward (suc zero) a = (refl, tt)
 turns_forward (suc (suc h)) a = cc
 
 turns_cost : (h : ℕ) → nested_nest.has h ≡ true
-    → nested_turn_cost h ≡ steps_cost (loops_of nested_nest) nested_bound ones nested_turns h (nested_turn_walk h) + (ones.node (end_of h (nested_turn_walk h)) + ones.edge (end_of h (nested_turn_walk h)) h)
+    → nested_turn_cost h ≡ steps_cost (loops_of nested_nest) nested_bound ones nested_turns h
+    (nested_turn_walk h) + (ones.node (end_of h (nested_turn_walk h)) + ones.edge (end_of h (nested_turn_walk h)) h)
 turns_cost zero a = refl
 turns_cost (suc zero) a = refl
 turns_cost (suc (suc h)) a = cc
@@ -327,6 +352,7 @@ turns_lower zero a = ((λ b. omega arith), ((λ b. omega arith), tt))
 turns_lower (suc zero) a = ((λ b. cc), tt)
 turns_lower (suc (suc h)) a = cc
 
+-- the collapsed walk of the nested loops stands for a walk of cost fourteen
 pub collapsed_cost : CollapsedWalkCostsFourteen
 collapsed_cost =
     let e : IsExpanded nested (loops_of nested_nest) nested_bound ones nested_turns 0 (1 ∷ 2 ∷ []) =

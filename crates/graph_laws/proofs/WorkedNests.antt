@@ -4,7 +4,8 @@ use Rattle.bt_base.specs.Graph.{has}
 use Rattle.graph_laws.specs.Walk.{IsWalk}
 use Rattle.graph_laws.specs.Loops.{AreLoops}
 use Rattle.graph_laws.specs.Nest.{cut, Reaches, SamePart, InScope, ComesFromOutside, IsEntered, IsHead, IsChain, HasHead, loops_of, AreReached}
-use Rattle.graph_laws.specs.Worked.{below_two, nested, below_three, one_or_two, nested_body, nested_outer, nested_nest, NestedLoopsHaveANest, two_ways, TwoWaysHaveNoNest}
+use Rattle.graph_laws.specs.Worked.{below_two, nested, below_three, one_or_two, nested_body, nested_outer, nested_nest, NestedLoopsHaveANest}
+use Rattle.graph_laws.specs.Worked.{two_ways, TwoWaysHaveNoNest}
 use Rattle.graph_laws.specs.WorkedNests.{NestedLoopsAreLoops, InnerLoopIsALoop, NestedLoopsUnwind, InnerLoopIsAPart, NestedLoopsHaveOneNest, InnerBodyIsEntered}
 use Rattle.graph_laws.proofs.Inner.{inner_loops}
 use Rattle.graph_laws.proofs.Nests.{part-sym, part-trans, cut_edge, end_free, nests_loops, nests_unwound, parts_inside, one_nest, no_nest, reached_entered}
@@ -30,7 +31,10 @@ nested_from (suc (suc (suc n))) m e = cc
 
 -- the outer part
 outer_whole : SamePart (cut nested []) 0 0
-outer_whole = record { there = record { between = 1 ∷ 2 ∷ []; walk = (refl, (refl, (refl, tt))) }; back = record { between = 1 ∷ 2 ∷ []; walk = (refl, (refl, (refl, tt))) } }
+outer_whole = record {
+  there = record { between = 1 ∷ 2 ∷ []; walk = (refl, (refl, (refl, tt))) };
+  back = record { between = 1 ∷ 2 ∷ []; walk = (refl, (refl, (refl, tt))) };
+}
 
 in_outer : (n : ℕ) → below_three n ≡ true → SamePart (cut nested []) 0 n
 in_outer zero i = outer_whole
@@ -51,7 +55,8 @@ outer_head x i =
   where
     only : (x : ℕ) → below_three x ≡ true → (n : ℕ) → (n ≡ 0) ⊎ ComesFromOutside nested [] x n → n ≡ 0
     only x i n (inl e) = e
-    only x i n (inr c) = absurd (c.outside (part-trans (cut nested []) x 0 c.from (part-sym (cut nested []) 0 x (in_outer x i)) (in_outer c.from (nested_from c.from n c.leads))))
+    only x i n (inr c) = absurd (c.outside
+        (part-trans (cut nested []) x 0 c.from (part-sym (cut nested []) 0 x (in_outer x i)) (in_outer c.from (nested_from c.from n c.leads))))
 
 -- the inner part
 inner_whole : SamePart (cut nested (0 ∷ [])) 1 1
@@ -76,7 +81,9 @@ inner_only : (x : ℕ) → one_or_two x ≡ true → (n : ℕ) → one_or_two n 
 inner_only x i zero j c = cc
 inner_only x i (suc zero) j c = refl
 inner_only x i (suc (suc zero)) j (inl e) = cc
-inner_only x i (suc (suc zero)) j (inr c) = absurd (c.outside (part-trans (cut nested (0 ∷ [])) x 1 c.from (part-sym (cut nested (0 ∷ [])) 1 x (in_inner x i)) (in_inner c.from (into_two c.from c.leads))))
+inner_only x i (suc (suc zero)) j (inr c) =
+    absurd (c.outside (part-trans (cut nested (0 ∷ [])) x 1 c.from (part-sym (cut nested (0 ∷ [])) 1 x (in_inner x i))
+    (in_inner c.from (into_two c.from c.leads))))
   where
     into_two : (n : ℕ) → nested n 2 ≡ true → one_or_two n ≡ true
     into_two zero e = cc
@@ -161,6 +168,7 @@ nested_deep : (h : ℕ) → nested_nest.has h ≡ true → length (nested_outer 
 nested_deep zero a = omega arith
 nested_deep (suc h) a = omega arith
 
+-- two nested loops have a nest
 pub nested_is : NestedLoopsHaveANest
 nested_is = record { parts = nested_parts; loop = nested_loop; chain = nested_chain; body = nested_bodies; depth = 2; deep = nested_deep }
 
@@ -170,6 +178,7 @@ nested_reached (suc zero) m e = record { rest = 1 ∷ []; walk = (refl, tt); end
 nested_reached (suc (suc zero)) m e = record { rest = 1 ∷ 2 ∷ []; walk = (refl, (refl, tt)); ends = refl }
 nested_reached (suc (suc (suc n))) m e = cc
 
+-- the loops of the nested graph are loops
 pub nested_are_loops : AreLoops nested 0 (loops_of nested_nest)
 nested_are_loops = nests_loops nested 0 nested_nest nested_is nested_reached
 
@@ -187,6 +196,7 @@ never_back n (b ∷ between) w = never_back b between w.1
 from_outside : (n : ℕ) → two_ways 0 n ≡ true → SamePart (cut two_ways []) 1 n → IsEntered two_ways 0 [] 1 n
 from_outside n e p = record { inside = p; comes = inr (record { from = 0; leads = e; outside = λ q. never_back 1 q.there.between q.there.walk }) }
 
+-- a loop that is entered at two nodes has no nest
 pub two_ways_none : TwoWaysHaveNoNest
 two_ways_none nest is =
     no_nest two_ways 0 [] 1 1 2 tt tt
@@ -196,9 +206,11 @@ two_ways_none nest is =
 pub nested_loops : NestedLoopsAreLoops
 nested_loops = record { reached = nested_reached; loops = nested_are_loops }
 
+-- inside the inner body the inner loop alone is left, entered at its head
 pub inner_is_a_loop : InnerLoopIsALoop
 inner_is_a_loop = record { loops = inner_loops nested 0 (loops_of nested_nest) 1 nested_are_loops refl; inner = refl; outer = refl }
 
+-- a walk round the inner loop goes back to its head, and without such edges no walk comes back
 pub nested_unwind : NestedLoopsUnwind
 nested_unwind = record {
   round = (refl, (refl, tt));
@@ -208,6 +220,7 @@ nested_unwind = record {
   none = nests_unwound nested 0 nested_nest nested_is;
 }
 
+-- the inner loop is a part below the outer head, and the outer head is in no part there
 pub inner_is_a_part : InnerLoopIsAPart
 inner_is_a_part = record {
   without = in_inner 2 refl;
@@ -217,6 +230,7 @@ inner_is_a_part = record {
       let z : one_or_two 0 ≡ true = inner_is 0 1 (part-sym (cut nested (0 ∷ [])) 1 0 q) in cc;
 }
 
+-- the nested loops have no other nest
 pub nested_one_nest : NestedLoopsHaveOneNest
 nested_one_nest nest is = one_nest nested 0 nested_nest nest nested_is is
 
@@ -229,6 +243,7 @@ enters_at_head (suc (suc zero)) (suc (suc zero)) i e o = cc
 enters_at_head (suc (suc zero)) (suc (suc (suc from))) i e o = cc
 enters_at_head (suc (suc (suc n))) from i e o = cc
 
+-- the inner body is entered, and at its head alone
 pub inner_entered : InnerBodyIsEntered
 inner_entered =
     let r = nested_reached 2 0 refl in

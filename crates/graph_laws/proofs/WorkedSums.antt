@@ -18,6 +18,7 @@ two_fall_end zero i e = cc
 two_fall_end (suc zero) i e = omega arith
 two_fall_end (suc (suc n)) i e = cc
 
+-- a counter from 3 to 0 that falls by one in each turn, along a walk that passes the head four times
 pub falling_meets : FallingCounterMeetsItsBound
 falling_meets = record {
   counted = record {
@@ -59,7 +60,8 @@ rise_chosen (suc zero) i z = record { from = 0; inside = refl; leads = refl; for
 rise_chosen (suc (suc zero)) i z = record { from = 1; inside = refl; leads = refl; forward = refl; lower = omega arith; is = refl }
 rise_chosen (suc (suc (suc n))) i z = cc
 
-rise_on : (n m : ℕ) → nested_body 0 n ≡ true → nested_body 0 m ≡ true → nested n m ≡ true → is_back (loops_of nested_nest) n m ≡ false → rising_label m + head_up.down n ≤ rising_label n + head_up.up n
+rise_on : (n m : ℕ) → nested_body 0 n ≡ true → nested_body 0 m ≡ true → nested n m ≡ true → is_back (loops_of nested_nest) n m ≡ false
+    → rising_label m + head_up.down n ≤ rising_label n + head_up.up n
 rise_on zero zero i j e f = cc
 rise_on zero (suc m) i j e f = omega arith
 rise_on (suc n) zero i j e f = omega arith
@@ -72,9 +74,11 @@ rise_end (suc n) i e = omega arith
 rise_sums : AreRisingSums nested (nested_body 0) 0 head_up 1 rising_label
 rise_sums = forward_rise nested 0 (loops_of nested_nest) 0 head_up 1 rising_label (λ m. m) nested_are_loops refl rise_keep rise_chosen rise_on rise_end
 
+-- labels of sums of the nested loops, whose outer head alone adds to the cell, show that each turn rises by one
 pub nested_rise : NestedSumsRise
 nested_rise =
-    let t : HasTurn nested (nested_body 0) 0 head_up rising_label 2 = chosen_sums nested (loops_of nested_nest) 0 head_up rising_label (λ m. m) refl rise_chosen 2 refl refl in
+    let t : HasTurn nested (nested_body 0) 0 head_up rising_label 2 =
+    chosen_sums nested (loops_of nested_nest) 0 head_up rising_label (λ m. m) refl rise_chosen 2 refl refl in
     record {
       keep = rise_keep;
       label = rising_label;
@@ -104,7 +108,8 @@ fall_chosen (suc zero) i z = record { from = 0; inside = refl; leads = refl; for
 fall_chosen (suc (suc zero)) i z = record { from = 1; inside = refl; leads = refl; forward = refl; lower = omega arith; is = refl }
 fall_chosen (suc (suc (suc n))) i z = cc
 
-fall_on : (n m : ℕ) → nested_body 0 n ≡ true → nested_body 0 m ≡ true → nested n m ≡ true → is_back (loops_of nested_nest) n m ≡ false → falling_label n + head_down.up n ≤ falling_label m + head_down.down n
+fall_on : (n m : ℕ) → nested_body 0 n ≡ true → nested_body 0 m ≡ true → nested n m ≡ true → is_back (loops_of nested_nest) n m ≡ false
+    → falling_label n + head_down.up n ≤ falling_label m + head_down.down n
 fall_on zero zero i j e f = cc
 fall_on zero (suc m) i j e f = omega arith
 fall_on (suc n) zero i j e f = omega arith
@@ -117,9 +122,11 @@ fall_end (suc n) i e = omega arith
 fall_sums : AreFallingSums nested (nested_body 0) 0 head_down 1 falling_label
 fall_sums = forward_fall nested 0 (loops_of nested_nest) 0 head_down 1 falling_label (λ m. m) nested_are_loops refl fall_keep fall_chosen fall_on fall_end
 
+-- the same where the outer head takes from the cell
 pub nested_fall : NestedSumsFall
 nested_fall =
-    let t : HasTurn nested (nested_body 0) 0 head_down falling_label 2 = chosen_sums nested (loops_of nested_nest) 0 head_down falling_label (λ m. m) refl fall_chosen 2 refl refl in
+    let t : HasTurn nested (nested_body 0) 0 head_down falling_label 2 =
+    chosen_sums nested (loops_of nested_nest) 0 head_down falling_label (λ m. m) refl fall_chosen 2 refl refl in
     record {
       keep = fall_keep;
       label = falling_label;

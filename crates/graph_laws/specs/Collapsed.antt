@@ -29,7 +29,9 @@ pub record AreTurns (edge : ℕ → ℕ → Bool) (loops : Loops) (bound : ℕ �
   pub back : (h : ℕ) → loops.has h ≡ true → edge (end_of h (turns.walk h)) h ≡ true
   pub inside : (h : ℕ) → loops.has h ≡ true → AreInside (loops.body h) (turns.walk h)
   pub forward : (h : ℕ) → loops.has h ≡ true → IsForward loops h (turns.walk h)
-  pub cost : (h : ℕ) → loops.has h ≡ true → turns.cost h ≡ steps_cost loops bound costs turns h (turns.walk h) + (costs.node (end_of h (turns.walk h)) + costs.edge (end_of h (turns.walk h)) h)
+  pub cost : (h : ℕ) → loops.has h ≡ true
+      → turns.cost h ≡ steps_cost loops bound costs turns h (turns.walk h)
+      + (costs.node (end_of h (turns.walk h)) + costs.edge (end_of h (turns.walk h)) h)
   pub lower : (h : ℕ) → loops.has h ≡ true → RankBelow loops rank (rank h) (turns.walk h)
 
 -- a turn so many times, each from the head on, and then the rest

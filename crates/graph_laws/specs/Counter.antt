@@ -48,11 +48,13 @@ turn_down changes head between = total changes.down (head ∷ between)
 
 -- the sum of each turn is at least the step
 abbrev pub TurnsRise : (ℕ → ℕ → Bool) → (ℕ → Bool) → ℕ → Changes → ℕ → Type 0
-TurnsRise edge body head changes step = (between : List ℕ) → IsTurn edge body head between → turn_down changes head between + step ≤ turn_up changes head between
+TurnsRise edge body head changes step = (between : List ℕ) → IsTurn edge body head between
+    → turn_down changes head between + step ≤ turn_up changes head between
 
 -- the sum of each turn is at most the negative step
 abbrev pub TurnsFall : (ℕ → ℕ → Bool) → (ℕ → Bool) → ℕ → Changes → ℕ → Type 0
-TurnsFall edge body head changes step = (between : List ℕ) → IsTurn edge body head between → turn_up changes head between + step ≤ turn_down changes head between
+TurnsFall edge body head changes step = (between : List ℕ) → IsTurn edge body head between
+    → turn_up changes head between + step ≤ turn_down changes head between
 
 -- a stretch of a walk inside a body, along which a cell counts
 pub record IsCounted (edge : ℕ → ℕ → Bool) (body : ℕ → Bool) (head : ℕ) (changes : Changes) (lo hi : ℕ) (stretch : List Visit) : Type 0 where
@@ -124,13 +126,15 @@ InnerLoopsKeep loops head changes = (k n : ℕ) → loops.has k ≡ true → loo
 abbrev pub ForwardSumsRise : Type 0
 ForwardSumsRise = (edge : ℕ → ℕ → Bool) (entry : ℕ) (loops : Loops) (head : ℕ) (changes : Changes) (step : ℕ) (label : ℕ → ℕ) (rank : ℕ → ℕ)
     → AreLoops edge entry loops → loops.has head ≡ true → InnerLoopsKeep loops head changes → AreChosenSums edge loops head changes label rank
-    → ((n m : ℕ) → loops.body head n ≡ true → loops.body head m ≡ true → edge n m ≡ true → is_back loops n m ≡ false → label m + changes.down n ≤ label n + changes.up n)
+    → ((n m : ℕ) → loops.body head n ≡ true → loops.body head m ≡ true → edge n m ≡ true → is_back loops n m ≡ false
+    → label m + changes.down n ≤ label n + changes.up n)
     → ((n : ℕ) → loops.body head n ≡ true → edge n head ≡ true → label head + step + changes.down n ≤ label n + changes.up n)
     → AreRisingSums edge (loops.body head) head changes step label
 
 abbrev pub ForwardSumsFall : Type 0
 ForwardSumsFall = (edge : ℕ → ℕ → Bool) (entry : ℕ) (loops : Loops) (head : ℕ) (changes : Changes) (step : ℕ) (label : ℕ → ℕ) (rank : ℕ → ℕ)
     → AreLoops edge entry loops → loops.has head ≡ true → InnerLoopsKeep loops head changes → AreChosenSums edge loops head changes label rank
-    → ((n m : ℕ) → loops.body head n ≡ true → loops.body head m ≡ true → edge n m ≡ true → is_back loops n m ≡ false → label n + changes.up n ≤ label m + changes.down n)
+    → ((n m : ℕ) → loops.body head n ≡ true → loops.body head m ≡ true → edge n m ≡ true → is_back loops n m ≡ false
+    → label n + changes.up n ≤ label m + changes.down n)
     → ((n : ℕ) → loops.body head n ≡ true → edge n head ≡ true → label n + changes.up n + step ≤ label head + changes.down n)
     → AreFallingSums edge (loops.body head) head changes step label

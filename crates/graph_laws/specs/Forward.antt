@@ -40,7 +40,8 @@ ReachedAreReachedForward = (edge : ℕ → ℕ → Bool) (entry : ℕ) (loops : 
 -- a walk from a node of a body to its head stays in the body, if it takes no edge into an outer head
 abbrev pub WalksBackStay : Type 0
 WalksBackStay = (edge : ℕ → ℕ → Bool) (entry : ℕ) (nest : Nest) → IsNest edge entry nest
-    → (h n : ℕ) (between : List ℕ) → nest.has h ≡ true → nest.body h n ≡ true → IsWalk (cut edge (nest.outer h)) n (between ++ h ∷ []) → AreInside (nest.body h) between
+    → (h n : ℕ) (between : List ℕ) → nest.has h ≡ true → nest.body h n ≡ true → IsWalk (cut edge (nest.outer h)) n (between ++ h ∷ [])
+    → AreInside (nest.body h) between
 
 -- a turn of a head: a walk inside its body that never goes back to a head, and an edge back
 pub record HasTurn (edge : ℕ → ℕ → Bool) (loops : Loops) (h : ℕ) : Type 0 where
@@ -72,10 +73,12 @@ spent_of costs n (m ∷ rest) = costs.node n + costs.edge n m + spent_of costs m
 -- what a walk and what follows it spend add up; a walk costs what it has spent and its last node
 pub record SpentAddsUp : Type 0 where
   pub append : (costs : Costs) (n : ℕ) (one two : List ℕ) → spent_of costs n (one ++ two) ≡ spent_of costs n one + spent_of costs (end_of n one) two
-  pub step : (costs : Costs) (n m : ℕ) (one : List ℕ) → spent_of costs n (one ++ m ∷ []) ≡ spent_of costs n one + (costs.node (end_of n one) + costs.edge (end_of n one) m)
+  pub step : (costs : Costs) (n m : ℕ) (one : List ℕ)
+      → spent_of costs n (one ++ m ∷ []) ≡ spent_of costs n one + (costs.node (end_of n one) + costs.edge (end_of n one) m)
   pub whole : (costs : Costs) (n : ℕ) (rest : List ℕ) → cost_of costs n rest ≡ spent_of costs n rest + costs.node (end_of n rest)
 
 -- the beginning of a walk that keeps the head bounds keeps them, and has spent at most what no walk exceeds
 abbrev pub PrefixesSpendLess : Type 0
-PrefixesSpendLess = (edge : ℕ → ℕ → Bool) (n : ℕ) (loops : Loops) (bound : ℕ → ℕ) (costs : Costs) (most : ℕ) (one two : List ℕ) → CostAtMost edge n loops bound costs most
+PrefixesSpendLess = (edge : ℕ → ℕ → Bool) (n : ℕ) (loops : Loops) (bound : ℕ → ℕ) (costs : Costs) (most : ℕ) (one two : List ℕ)
+    → CostAtMost edge n loops bound costs most
     → IsWalk edge n (one ++ two) → KeepsBounds loops bound (n ∷ (one ++ two)) → KeepsBounds loops bound (n ∷ one) × (spent_of costs n one ≤ most)

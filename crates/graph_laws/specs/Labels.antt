@@ -39,10 +39,12 @@ pub record AreLabels (edge : ℕ → ℕ → Bool) (loops : Loops) (bound : ℕ 
   pub rest : (n m : ℕ) → edge n m ≡ true → is_back loops n m ≡ false → step_cost loops bound costs labels n m + labels.rest m ≤ labels.rest n
   pub turn : (h n m v : ℕ) → loops.has h ≡ true → 2 ≤ bound h → loops.body h n ≡ true → loops.body h m ≡ true → edge n m ≡ true → is_back loops n m ≡ false
       → labels.turn h m ≡ Some v → IsAtLeast (labels.turn h n) (step_cost loops bound costs labels n m + v)
-  pub back : (h n : ℕ) → loops.has h ≡ true → 2 ≤ bound h → loops.body h n ≡ true → edge n h ≡ true → IsAtLeast (labels.turn h n) (costs.node n + costs.edge n h)
+  pub back : (h n : ℕ) → loops.has h ≡ true → 2 ≤ bound h → loops.body h n ≡ true → edge n h ≡ true
+      → IsAtLeast (labels.turn h n) (costs.node n + costs.edge n h)
 
 -- a label that is what one edge to a node of smaller rank asks
-pub record IsAsked (edge : ℕ → ℕ → Bool) (loops : Loops) (bound : ℕ → ℕ) (costs : Costs) (labels : Labels) (rank : ℕ → ℕ) (to : ℕ → Option ℕ) (n value : ℕ) : Type 0 where
+pub record IsAsked (edge : ℕ → ℕ → Bool) (loops : Loops) (bound : ℕ → ℕ) (costs : Costs) (labels : Labels) (rank : ℕ → ℕ) (to : ℕ → Option ℕ)
+    (n value : ℕ) : Type 0 where
   pub next : ℕ
   pub asked : ℕ
   pub leads : edge n next ≡ true
@@ -76,17 +78,21 @@ ChosenLabelsAreAttained = (edge : ℕ → ℕ → Bool) (entry : ℕ) (loops : L
 -- labels that are chosen and ask enough say the greatest cost
 abbrev pub ChosenLabelsAreGreatest : Type 0
 ChosenLabelsAreGreatest = (edge : ℕ → ℕ → Bool) (entry : ℕ) (loops : Loops) (bound : ℕ → ℕ) (costs : Costs) (labels : Labels) (rank : ℕ → ℕ)
-    → AreLoops edge entry loops → ((h : ℕ) → loops.has h ≡ true → 1 ≤ bound h) → AreLabels edge loops bound costs labels → AreChosen edge loops bound costs labels rank
+    → AreLoops edge entry loops → ((h : ℕ) → loops.has h ≡ true → 1 ≤ bound h) → AreLabels edge loops bound costs labels
+    → AreChosen edge loops bound costs labels rank
     → IsGreatestCost edge entry loops bound costs (most_from loops bound labels entry)
 
 -- labels of the walks inside one body, each at least what each edge inside asks
 pub record AreOwnLabels (edge : ℕ → ℕ → Bool) (loops : Loops) (bound : ℕ → ℕ) (costs : Costs) (labels : Labels) (h : ℕ) (own : ℕ → ℕ) : Type 0 where
   pub node : (n : ℕ) → loops.body h n ≡ true → costs.node n ≤ own n
-  pub rest : (n m : ℕ) → loops.body h n ≡ true → loops.body h m ≡ true → edge n m ≡ true → is_back loops n m ≡ false → step_cost loops bound costs labels n m + own m ≤ own n
+  pub rest : (n m : ℕ) → loops.body h n ≡ true → loops.body h m ≡ true → edge n m ≡ true → is_back loops n m ≡ false
+      → step_cost loops bound costs labels n m + own m ≤ own n
 
 -- and each one of these
-pub record AreOwnChosen (edge : ℕ → ℕ → Bool) (loops : Loops) (bound : ℕ → ℕ) (costs : Costs) (labels : Labels) (rank : ℕ → ℕ) (h : ℕ) (own : ℕ → ℕ) : Type 0 where
-  pub rest : (n : ℕ) → loops.body h n ≡ true → (own n ≡ costs.node n) ⊎ IsAsked (edges_inside edge (loops.body h)) loops bound costs labels rank (λ m. Some (own m)) n (own n)
+pub record AreOwnChosen (edge : ℕ → ℕ → Bool) (loops : Loops) (bound : ℕ → ℕ) (costs : Costs) (labels : Labels) (rank : ℕ → ℕ) (h : ℕ)
+    (own : ℕ → ℕ) : Type 0 where
+  pub rest : (n : ℕ) → loops.body h n ≡ true
+      → (own n ≡ costs.node n) ⊎ IsAsked (edges_inside edge (loops.body h)) loops bound costs labels rank (λ m. Some (own m)) n (own n)
 
 -- such labels bound the cost of each walk inside the body from its head that keeps the head bounds
 abbrev pub OwnLabelsBoundWalks : Type 0
@@ -97,7 +103,8 @@ OwnLabelsBoundWalks = (edge : ℕ → ℕ → Bool) (entry : ℕ) (loops : Loops
 -- a loop's own greatest cost: that of the walks inside its body from its head
 abbrev pub OwnLabelsAreGreatest : Type 0
 OwnLabelsAreGreatest = (edge : ℕ → ℕ → Bool) (entry : ℕ) (loops : Loops) (bound : ℕ → ℕ) (costs : Costs) (labels : Labels) (rank : ℕ → ℕ) (h : ℕ) (own : ℕ → ℕ)
-    → AreLoops edge entry loops → ((k : ℕ) → loops.has k ≡ true → 1 ≤ bound k) → AreLabels edge loops bound costs labels → AreChosen edge loops bound costs labels rank
+    → AreLoops edge entry loops → ((k : ℕ) → loops.has k ≡ true → 1 ≤ bound k) → AreLabels edge loops bound costs labels
+    → AreChosen edge loops bound costs labels rank
     → loops.has h ≡ true → AreOwnLabels edge loops bound costs labels h own → AreOwnChosen edge loops bound costs labels rank h own
     → IsGreatestCost (edges_inside edge (loops.body h)) h loops bound costs (laps_cost loops bound labels h + own h)
 

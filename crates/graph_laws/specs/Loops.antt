@@ -28,7 +28,8 @@ IsForward loops n (m ∷ rest) = (is_back loops n m ≡ false) × IsForward loop
 -- Each stretch of a walk inside a body passes its head at most its bound of times: that is how often the head is
 -- passed from one entry into the body to the next.
 pub record KeepsBounds (loops : Loops) (bound : ℕ → ℕ) (walk : List ℕ) : Type 0 where
-  pub kept : (h : ℕ) (before stretch after : List ℕ) → loops.has h ≡ true → before ++ (stretch ++ after) ≡ walk → AreInside (loops.body h) stretch → passes h stretch ≤ bound h
+  pub kept : (h : ℕ) (before stretch after : List ℕ) → loops.has h ≡ true → before ++ (stretch ++ after) ≡ walk → AreInside (loops.body h) stretch
+      → passes h stretch ≤ bound h
 
 -- no walk from a node that keeps the head bounds costs more
 abbrev pub CostAtMost : (ℕ → ℕ → Bool) → ℕ → Loops → (ℕ → ℕ) → Costs → ℕ → Type 0

@@ -3,7 +3,8 @@ use Rattle.std.specs.Prelude.{◌≡◌, ℕ, zero, suc, ◌+◌, ◌-◌, ◌/�
 use Rattle.graph_laws.specs.Walk.{passes}
 use Rattle.graph_laws.specs.Loops.{Loops}
 use Rattle.graph_laws.specs.Nest.{loops_of}
-use Rattle.graph_laws.specs.Counter.{Visit, Changes, nodes_of, IsCounted, IsTurn, turn_up, turn_down, TurnsRise, TurnsFall, AreRisingSums, AreFallingSums, AreChosenSums, InnerLoopsKeep}
+use Rattle.graph_laws.specs.Counter.{Visit, Changes, nodes_of, IsCounted, IsTurn, turn_up, turn_down, TurnsRise, TurnsFall, AreRisingSums}
+use Rattle.graph_laws.specs.Counter.{AreFallingSums, AreChosenSums, InnerLoopsKeep}
 use Rattle.graph_laws.specs.Worked.{two_nodes, below_two, one_at_one, visit, nested, nested_nest}
 
 -- a counter that falls by one in each turn of the loop of two nodes, from 3 to 0 at its head

@@ -17,7 +17,7 @@ pub fn reached_are_reached_forward()
     ensures { ReachedAreReachedForward }
 {}
 
-/// A walk from a node of a body back to its head stays in the body.
+/// A walk from a node of a body back to its head that takes no edge into an outer head stays in the body.
 pub fn walks_back_stay()
     ensures { WalksBackStay }
 {}

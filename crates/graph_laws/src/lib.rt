@@ -40,6 +40,3 @@ pub use worked_graphs::{
     nested_loops_cost_fourteen, nested_loops_have_a_nest, nested_loops_have_one_nest,
     nested_loops_unwind, nested_sums_fall, nested_sums_rise, two_ways_have_no_nest,
 };
-
-#[cfg(test)]
-mod tests;

@@ -21,13 +21,17 @@ HasEach v list = (a : ℕ) → a < 2 ^ 32 → a % 4 ≡ 0 → MayHave v a → Co
 -- what the targets are, and when they are whole
 pub record TargetsAreExact : Type 0 where
   pub rising : (image : List ℕ) (v : Value) (candidates : List ℕ) (asserted : Bool) → IsStrictlyIncreasing (targets image v candidates asserted).list
-  pub list : (image : List ℕ) (v : Value) (candidates : List ℕ) (asserted : Bool) (a : ℕ) → Contains (targets image v candidates asserted).list a ↔ IsTarget image v candidates a
-  pub whole : (image : List ℕ) (v : Value) (candidates : List ℕ) (asserted : Bool) → ((targets image v candidates asserted).whole ≡ true) ↔ ((asserted ≡ true) ⊎ HasEach v (targets image v candidates asserted).list)
+  pub list : (image : List ℕ) (v : Value) (candidates : List ℕ) (asserted : Bool) (a : ℕ)
+      → Contains (targets image v candidates asserted).list a ↔ IsTarget image v candidates a
+  pub whole : (image : List ℕ) (v : Value) (candidates : List ℕ) (asserted : Bool)
+      → ((targets image v candidates asserted).whole ≡ true) ↔ ((asserted ≡ true) ⊎ HasEach v (targets image v candidates asserted).list)
 
 -- a value that may be more has more targets, and where these are whole, the others are
 pub record TargetsRise : Type 0 where
-  pub list : (image : List ℕ) (v u : Value) (candidates : List ℕ) (asserted : Bool) (a : ℕ) → is_at_most v u ≡ true → Contains (targets image v candidates asserted).list a → Contains (targets image u candidates asserted).list a
-  pub whole : (image : List ℕ) (v u : Value) (candidates : List ℕ) (asserted : Bool) → is_at_most v u ≡ true → (targets image u candidates asserted).whole ≡ true → (targets image v candidates asserted).whole ≡ true
+  pub list : (image : List ℕ) (v u : Value) (candidates : List ℕ) (asserted : Bool) (a : ℕ) → is_at_most v u ≡ true
+      → Contains (targets image v candidates asserted).list a → Contains (targets image u candidates asserted).list a
+  pub whole : (image : List ℕ) (v u : Value) (candidates : List ℕ) (asserted : Bool) → is_at_most v u ≡ true
+      → (targets image u candidates asserted).whole ≡ true → (targets image v candidates asserted).whole ≡ true
 
 -- there are no more targets than candidates
 abbrev pub TargetsAreFew : Type 0

@@ -1,5 +1,6 @@
 -- The lines and words of a text, one after the other.
-use Rattle.std.proofs.Common.{◌≡◌, ◌≢◌, ℕ, suc, ◌+◌, ◌<◌, ◌≤◌, inl, inr, ◌⊎◌, Bool, true, false, not, List, [], ◌∷◌, length, take, drop, filter, get_or, refl, sym, ap, subst, ◌∙◌, arith, eqb, unwrap_or, position}
+use Rattle.std.proofs.Common.{◌≡◌, ◌≢◌, ℕ, suc, ◌+◌, ◌<◌, ◌≤◌, inl, inr, ◌⊎◌, Bool, true, false, not, List, [], ◌∷◌, length, take, drop, filter}
+use Rattle.std.proofs.Common.{get_or, refl, sym, ap, subst, ◌∙◌, arith, eqb, unwrap_or, position}
 use Rattle.std.specs.List.{slice_split, position_or_len, before_first, after_first}
 use Rattle.std.specs.Str.Lines.{lines, lines_of_parts, strip_carriage_return}
 use Rattle.std.proofs.Math.Dec.{eqb-suc-zero}
@@ -48,15 +49,18 @@ line_alone [] none some = absurd (some refl)
 line_alone (x ∷ xs) none some = ap lines_of_parts (split_whole (λ b. eqb b 10) (x ∷ xs) none) ∙ rw (eqb-suc-zero (length xs)) refl
 
 -- a text with an LF begins with the line before it
-pub line_before : (text : List ℕ) → position_or_len (λ b. eqb b 10) text < length text → lines text ≡ strip_carriage_return (before_first (λ b. eqb b 10) text) ∷ lines (after_first (λ b. eqb b 10) text)
+pub line_before : (text : List ℕ) → position_or_len (λ b. eqb b 10) text < length text
+    → lines text ≡ strip_carriage_return (before_first (λ b. eqb b 10) text) ∷ lines (after_first (λ b. eqb b 10) text)
 line_before text within =
     ap lines_of_parts (slice_split_first (λ b. eqb b 10) text 0 within)
-    ∙ parts_more (before_first (λ b. eqb b 10) text) (slice_split (λ b. eqb b 10) (after_first (λ b. eqb b 10) text)) _ (length-slice_split (λ b. eqb b 10) (after_first (λ b. eqb b 10) text))
+    ∙ parts_more (before_first (λ b. eqb b 10) text) (slice_split (λ b. eqb b 10) (after_first (λ b. eqb b 10) text)) _
+    (length-slice_split (λ b. eqb b 10) (after_first (λ b. eqb b 10) text))
 
 -- blanks in front of a word don't count
 blank_first : (x : ℕ) (xs : List ℕ) → is_blank x ≡ true → words_of (x ∷ xs) ≡ words_of xs
 blank_first x xs blank = rw blank refl
 
+-- one more is dropped from behind the first
 pub drop_one : (n x : ℕ) (xs : List ℕ) → drop (1 + n) (x ∷ xs) ≡ drop n xs
 drop_one n x xs = let more : 1 + n ≡ suc n = omega arith in rw more refl
 
@@ -78,22 +82,26 @@ unblanked_first (y ∷ ys) x xs is = elim (cases_Bool (is_blank y)) [
 ]
 
 -- a word in front of others
-kept : (word : List ℕ) (parts : List (List ℕ)) → length word ≢ 0 → filter (λ w. not (eqb (length w) 0)) (word ∷ parts) ≡ word ∷ filter (λ w. not (eqb (length w) 0)) parts
+kept : (word : List ℕ) (parts : List (List ℕ)) → length word ≢ 0
+    → filter (λ w. not (eqb (length w) 0)) (word ∷ parts) ≡ word ∷ filter (λ w. not (eqb (length w) 0)) parts
 kept word parts some = rw (ne_eqb (length word) 0 some) refl
 
 -- a line that begins with no blank begins with a word
-pub word_first : (x : ℕ) (xs : List ℕ) → is_blank x ≡ false → words_of (x ∷ xs) ≡ take (position_or_len is_blank (x ∷ xs)) (x ∷ xs) ∷ words_of (drop (position_or_len is_blank (x ∷ xs)) (x ∷ xs))
+pub word_first : (x : ℕ) (xs : List ℕ) → is_blank x ≡ false
+    → words_of (x ∷ xs) ≡ take (position_or_len is_blank (x ∷ xs)) (x ∷ xs) ∷ words_of (drop (position_or_len is_blank (x ∷ xs)) (x ∷ xs))
 word_first x xs lacks = cases (cases_lt (position_or_len is_blank (x ∷ xs)) (length (x ∷ xs))) where
   longer : position_or_len is_blank (x ∷ xs) ≡ 1 + position_or_len is_blank xs
   longer = rw lacks refl
 
-  cases : (position_or_len is_blank (x ∷ xs) < length (x ∷ xs)) ⊎ (length (x ∷ xs) ≤ position_or_len is_blank (x ∷ xs)) → words_of (x ∷ xs) ≡ take (position_or_len is_blank (x ∷ xs)) (x ∷ xs) ∷ words_of (drop (position_or_len is_blank (x ∷ xs)) (x ∷ xs))
+  cases : (position_or_len is_blank (x ∷ xs) < length (x ∷ xs)) ⊎ (length (x ∷ xs) ≤ position_or_len is_blank (x ∷ xs))
+      → words_of (x ∷ xs) ≡ take (position_or_len is_blank (x ∷ xs)) (x ∷ xs) ∷ words_of (drop (position_or_len is_blank (x ∷ xs)) (x ∷ xs))
   cases (inl within) =
       let end = position_or_len is_blank (x ∷ xs) in
       let front : List ℕ = take end (x ∷ xs) in
       let some : length front ≢ 0 = λ none. omega (arith, none, longer, length-take end (x ∷ xs)) in
       let rest : words_of (drop end (x ∷ xs)) ≡ words_of (drop (end + 1) (x ∷ xs)) =
-      ap words_of (drop_more (x ∷ xs) end 0 within) ∙ blank_first (get_or (x ∷ xs) end 0) (drop (end + 1) (x ∷ xs)) (passes_at_first is_blank (x ∷ xs) 0 within) in
+      ap words_of (drop_more (x ∷ xs) end 0 within)
+      ∙ blank_first (get_or (x ∷ xs) end 0) (drop (end + 1) (x ∷ xs)) (passes_at_first is_blank (x ∷ xs) 0 within) in
       ap (filter (λ w. not (eqb (length w) 0))) (slice_split_first is_blank (x ∷ xs) 0 within)
       ∙ kept front (slice_split is_blank (drop (end + 1) (x ∷ xs))) some
       ∙ ap (λ (ws : List (List ℕ)). front ∷ ws) (sym rest)
@@ -106,7 +114,8 @@ word_first x xs lacks = cases (cases_lt (position_or_len is_blank (x ∷ xs)) (l
       ∙ (λ i. sym all i ∷ words_of (sym none i))
 
 -- the first word of a line, where something is left without the blanks in front
-pub word_of_rest : (line rest : List ℕ) → unblanked line ≡ rest → rest ≢ [] → words_of line ≡ take (position_or_len is_blank rest) rest ∷ words_of (drop (position_or_len is_blank rest) rest)
+pub word_of_rest : (line rest : List ℕ) → unblanked line ≡ rest → rest ≢ []
+    → words_of line ≡ take (position_or_len is_blank rest) rest ∷ words_of (drop (position_or_len is_blank rest) rest)
 word_of_rest line [] is some = absurd (some refl)
 word_of_rest line (x ∷ xs) is some = sym (unblanked_same line) ∙ ap words_of is ∙ word_first x xs (unblanked_first line x xs is)
 

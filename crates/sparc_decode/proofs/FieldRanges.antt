@@ -118,6 +118,8 @@ tables_fit op = go (eqb op 0) (eqb op 1) (eqb op 2) where
   go false false true = operations_fit
   go false false false = memory_fit
 
+-- the fields of a word's instruction are in range: registers are below 32, conditions below 16, and numbers fit their
+-- bits
 pub all_in_range : FieldsAreInRange
 unfolding instruction_of
 all_in_range word = named_in_range (table_of (field word 30 2)) (selector_of (field word 30 2) word) word (tables_fit (field word 30 2))

@@ -52,13 +52,15 @@ only_one (first ∷ rows) s zero zero one other apart at there = refl
 only_one (first ∷ rows) s zero (suc j) one other apart at there =
     let same : first ≡ one = (let e = at.stands in cc) in
     let here : has first.selectors s ≡ true = subst (λ (r : Row). has r.selectors s ≡ true) (sym same) at.selects in
-    absurd (absent_nowhere rows s j other (absent_each rows first.selectors s (and_parts _ _ apart).0 here) (record { stands = there.stands; selects = there.selects }))
+    absurd (absent_nowhere rows s j other (absent_each rows first.selectors s (and_parts _ _ apart).0 here)
+    (record { stands = there.stands; selects = there.selects }))
 only_one (first ∷ rows) s (suc i) zero one other apart at there =
     let same : first ≡ other = (let e = there.stands in cc) in
     let here : has first.selectors s ≡ true = subst (λ (r : Row). has r.selectors s ≡ true) (sym same) there.selects in
     absurd (absent_nowhere rows s i one (absent_each rows first.selectors s (and_parts _ _ apart).0 here) (record { stands = at.stands; selects = at.selects }))
 only_one (first ∷ rows) s (suc i) (suc j) one other apart at there =
-    ap suc (only_one rows s i j one other (and_parts _ _ apart).1 (record { stands = at.stands; selects = at.selects }) (record { stands = there.stands; selects = there.selects }))
+    ap suc (only_one rows s i j one other (and_parts _ _ apart).1 (record { stands = at.stands; selects = at.selects })
+    (record { stands = there.stands; selects = there.selects }))
 
 -- no two rows of a table have a selector in common
 tables_apart : (op : ℕ) → are_apart (table_of op) ≡ true
@@ -117,5 +119,6 @@ one_instruction word i j (Named place row at is) (Unnamed none same) = absurd (n
 one_instruction word i j (Unnamed none is) (Named place row at same) = absurd (none place row at)
 one_instruction word i j (Unnamed none is) (Unnamed also same) = is ∙ sym same
 
+-- each word stands for exactly one instruction
 pub each_word : EachWordStandsForOne
 each_word word = (stands_for word, λ other stands. one_instruction word other (instruction_of word) stands (stands_for word))

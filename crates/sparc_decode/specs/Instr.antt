@@ -4,7 +4,9 @@ use Rattle.sparc_decode.specs.Opcodes.{table_of, selector_of}
 use Rattle.sparc_decode.specs.Row.{Row, has, named_by}
 use Rattle.sparc_decode.specs.Word.{field, IsSigned}
 use Rattle.sparc_decode.specs.declared.instruction.Instr.{Instr}
-use Rattle.sparc_decode.specs.declared.instruction.Instr.TheVariants.{Call, Unimp, Sethi, Branch, FloatBranch, Alu, Tagged, MulStep, Shift, ReadY, WriteY, FloatOp, FloatCmp, Jmpl, Flush, Save, Restore, Ticc, Load, Store, Atomic, FloatMem, Unmodelled, Unknown, Multiply, Divide}
+use Rattle.sparc_decode.specs.declared.instruction.Instr.TheVariants.{Call, Unimp, Sethi, Branch, FloatBranch, Alu, Tagged, MulStep, Shift, ReadY}
+use Rattle.sparc_decode.specs.declared.instruction.Instr.TheVariants.{WriteY, FloatOp, FloatCmp, Jmpl, Flush, Save, Restore, Ticc, Load, Store}
+use Rattle.sparc_decode.specs.declared.instruction.Instr.TheVariants.{Atomic, FloatMem, Unmodelled, Unknown, Multiply, Divide}
 use Rattle.sparc_decode.specs.declared.instruction.Second.{Second}
 use Rattle.sparc_decode.specs.declared.instruction.Second.TheVariants.{Reg, Imm}
 

@@ -8,8 +8,9 @@ use crate::{AluOp, FloatKind, Instr, LoadKind, ShiftOp, StoreKind, TaggedOp, fie
 /// The instruction that a word stands for (SPARC Architecture Manual Version 7, "Opcodes"; of Version 8 the
 /// multiplications and divisions).
 ///
-/// Bits that no field names are ignored. An instruction of the manual that isn't modelled is `Unmodelled`, and
-/// a word whose opcode the manual leaves open is `Unknown`.
+/// Bits that no field names are ignored. An instruction of the manual that isn't modelled is `Unmodelled`, as is each
+/// opcode of a coprocessor's loads and stores (op 3, op3 from 30 to 37 in hexadecimal), of which the manual leaves 32
+/// open. Any other word whose opcode the manual leaves open is `Unknown`.
 #[tactic(auto, unfolding(crate::specs::Instr::instruction_of))]
 pub fn decode(word: u32) -> Instr
     ensures value { result ≡ instruction_of word }

@@ -43,6 +43,7 @@ not_shorter image entry m n a b less =
     let long = a.long in
     no_computation_at image (entry + 4 * (m - 2)) a.leave (b.compute (m - 2) (omega arith) (λ e. omega arith))
 
+-- where the code from an entry on is straight, it is so with one number of words
 pub is_one : StraightCodeIsOne
 is_one image entry m n a b = elim (cases_lt m n) [
   | inl less ↦ absurd (not_shorter image entry m n a b less)

@@ -249,5 +249,7 @@ step_keeps image cycles free m next (Some these) w e =
     modelled_keeps m next (is_in_version (has_eight cycles) (instruction_of these)) _
     (λ k. paid_keeps cycles m.loaded m next _ _ (keeps image free m (instruction_of these) w) k) e
 
+-- each step keeps the number of registers, the window pointer below 8, the window mask, and the alignment of the program
+-- counters
 pub each_step_keeps : EachStepKeeps
 each_step_keeps image cycles free m next w e = step_keeps image cycles free m next _ w e

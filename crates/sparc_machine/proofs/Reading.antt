@@ -223,5 +223,6 @@ module _ (p v : ℕ) where
       (same_first m rs1 second h) (same_second m rs1 second h) (write_on _ _ rd _ (flagged m free sets))
   same image free m (Divide sets rd rs1 second) h = write_on _ _ rd _ (flagged m free sets)
 
+-- what an instruction does depends on no registers but those that `sparc_decode::reads` names
 pub depends_on_reads : DependsOnReadsAlone
 depends_on_reads image free m i place value h = same place value image free m i h

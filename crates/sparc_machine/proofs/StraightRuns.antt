@@ -85,6 +85,7 @@ stays m _ delay h = cc
 abbrev pub leaf_return : Instr
 leaf_return = Jmpl 0 15 (Imm (pos 8))
 
+-- the word of a leaf's return stands for it
 pub the_return : instruction_of return_word ≡ leaf_return
 unfolding instruction_of
 the_return = refl

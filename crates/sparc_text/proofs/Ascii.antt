@@ -17,7 +17,9 @@ use Rattle.sparc_decode.specs.declared.instruction.AluOp.TheVariants.{Add, And, 
 use Rattle.sparc_decode.specs.declared.instruction.FloatKind.{FloatKind}
 use Rattle.sparc_decode.specs.declared.instruction.FloatKind.TheVariants.{Ldf, Ldfsr, Lddf, Stf, Stfsr, Stdf}
 use Rattle.sparc_decode.specs.declared.instruction.Instr.{Instr}
-use Rattle.sparc_decode.specs.declared.instruction.Instr.TheVariants.{Call, Unimp, Sethi, Branch, FloatBranch, Alu, Tagged, MulStep, Shift, ReadY, WriteY, FloatOp, FloatCmp, Jmpl, Flush, Save, Restore, Ticc, Load, Store, Atomic, FloatMem, Unmodelled, Unknown, Multiply, Divide}
+use Rattle.sparc_decode.specs.declared.instruction.Instr.TheVariants.{Call, Unimp, Sethi, Branch, FloatBranch, Alu, Tagged, MulStep, Shift, ReadY}
+use Rattle.sparc_decode.specs.declared.instruction.Instr.TheVariants.{WriteY, FloatOp, FloatCmp, Jmpl, Flush, Save, Restore, Ticc, Load, Store}
+use Rattle.sparc_decode.specs.declared.instruction.Instr.TheVariants.{Atomic, FloatMem, Unmodelled, Unknown, Multiply, Divide}
 use Rattle.sparc_decode.specs.declared.instruction.LoadKind.{LoadKind}
 use Rattle.sparc_decode.specs.declared.instruction.LoadKind.TheVariants.{Ld, Ldub, Lduh, Ldd, Ldsb, Ldsh}
 use Rattle.sparc_decode.specs.declared.instruction.Second.{Second}
@@ -29,7 +31,8 @@ use Rattle.sparc_decode.specs.declared.instruction.StoreKind.TheVariants.{St, St
 use Rattle.sparc_decode.specs.declared.instruction.TaggedOp.{TaggedOp}
 use Rattle.sparc_decode.specs.declared.instruction.TaggedOp.TheVariants.{Taddcc, Tsubcc, Taddcctv, Tsubcctv}
 use Rattle.sparc_text.specs.Listing.{line_of}
-use Rattle.sparc_text.specs.Names.{hex8_text, group_letter, register, float_register, operand, offset, address, first_condition, negated_condition, condition, alu_name, tagged_name, shift_name, load_name, store_name, float_name}
+use Rattle.sparc_text.specs.Names.{hex8_text, group_letter, register, float_register, operand, offset, address, first_condition, negated_condition}
+use Rattle.sparc_text.specs.Names.{condition, alu_name, tagged_name, shift_name, load_name, store_name, float_name}
 use Rattle.sparc_text.specs.Text.{branch_target, call_target, operands, hexadecimal, memory, loaded, stored, branching, float_operands, word_text, text_of}
 
 -- the characters of a text are ASCII

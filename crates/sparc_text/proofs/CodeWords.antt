@@ -56,6 +56,7 @@ found false f o aligned h = absurd (false≢true aligned)
 found true f None aligned h = absurd (false≢true h)
 found true f (Some x) aligned h = (f x, refl)
 
+-- each address of code has a word
 pub code_has_word : (image : List ℕ) (a : ℕ) → is_code image a ≡ true → (w : ℕ) × (word image a ≡ Some w)
 code_has_word image a code =
     let both = and_parts (a % 4 == 0) (is_some (held is_code_section image a 4)) code in

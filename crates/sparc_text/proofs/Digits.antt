@@ -17,6 +17,7 @@ parts_tell : (v w : ℕ) → v < 2 ^ 32 → w < 2 ^ 32 → v / 2 ^ 28 % 16 ≡ w
     → v / 2 ^ 8 % 16 ≡ w / 2 ^ 8 % 16 → v / 2 ^ 4 % 16 ≡ w / 2 ^ 4 % 16 → v % 16 ≡ w % 16 → v ≡ w
 parts_tell v w v_less w_less a b c d e f g h = omega arith
 
+-- a line tells its address and its word
 pub line_tells : (at word other_at other_word : ℕ) → at < 2 ^ 32 → word < 2 ^ 32 → other_at < 2 ^ 32 → other_word < 2 ^ 32
     → line_of at word ≡ line_of other_at other_word → (at ≡ other_at) × (word ≡ other_word)
 unfolding line_of hex8_text

@@ -59,6 +59,7 @@ same_addresses image xs ys first second =
     (λ w has. second.all w (All-contains (λ a. is_code image a ≡ true) xs w first.each has))
     (λ w has. first.all w (All-contains (λ a. is_code image a ≡ true) ys w second.each has))
 
+-- an image has one listing
 pub one_listing : (image one other : List ℕ) → IsListing image one → IsListing image other → one ≡ other
 one_listing image one other first second =
     first.lines

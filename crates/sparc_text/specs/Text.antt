@@ -5,9 +5,12 @@ use Rattle.std.specs.Int.{w32, cast_unsigned}
 use Rattle.sparc_decode.specs.declared.instruction.FloatKind.{FloatKind}
 use Rattle.sparc_decode.specs.declared.instruction.FloatKind.TheVariants.{Ldf, Ldfsr, Lddf, Stf, Stfsr, Stdf}
 use Rattle.sparc_decode.specs.declared.instruction.Instr.{Instr}
-use Rattle.sparc_decode.specs.declared.instruction.Instr.TheVariants.{Call, Unimp, Sethi, Branch, FloatBranch, Alu, Tagged, MulStep, Shift, ReadY, WriteY, FloatOp, FloatCmp, Jmpl, Flush, Save, Restore, Ticc, Load, Store, Atomic, FloatMem, Unmodelled, Unknown, Multiply, Divide}
+use Rattle.sparc_decode.specs.declared.instruction.Instr.TheVariants.{Call, Unimp, Sethi, Branch, FloatBranch, Alu, Tagged, MulStep, Shift, ReadY}
+use Rattle.sparc_decode.specs.declared.instruction.Instr.TheVariants.{WriteY, FloatOp, FloatCmp, Jmpl, Flush, Save, Restore, Ticc, Load, Store}
+use Rattle.sparc_decode.specs.declared.instruction.Instr.TheVariants.{Atomic, FloatMem, Unmodelled, Unknown, Multiply, Divide}
 use Rattle.sparc_decode.specs.declared.instruction.Second.{Second}
-use Rattle.sparc_text.specs.Names.{hex8_text, register, float_register, operand, address, condition, alu_name, tagged_name, shift_name, load_name, store_name, float_name}
+use Rattle.sparc_text.specs.Names.{hex8_text, register, float_register, operand, address, condition, alu_name, tagged_name, shift_name, load_name}
+use Rattle.sparc_text.specs.Names.{store_name, float_name}
 
 -- the address at a displacement of words from the instruction, modulo 2 ^ 32
 abbrev pub branch_target : ℕ → ℤ → ℕ

@@ -126,7 +126,8 @@ module _ (image costs : List ℕ) (list : List BoundAssertion) (y : StackFacts) 
     }
     beneath Returns [] lowest below rest h ask =
         let pop : IsPopped image costs list y x facts invalid lowest below rest m next =
-        popped image costs list y x facts invalid lowest below rest m next ask.running ask.after ask.steps (ask.was).0 h.stub (ask.back lowest below rest refl refl h.stub) h.plain h.entered h.waiting h.hanging h.high in
+        popped image costs list y x facts invalid lowest below rest m next ask.running ask.after ask.steps (ask.was).0 h.stub
+        (ask.back lowest below rest refl refl h.stub) h.plain h.entered h.waiting h.hanging h.high in
         record {
           holds = inl pop.clear;
           followed = λ top under are. record {
@@ -142,7 +143,8 @@ module _ (image costs : List ℕ) (list : List BoundAssertion) (y : StackFacts) 
     clear : (due : Transfer) (top : Frame) (rest : List Frame) → IsClear image list y x invalid due top rest m → IsAsked first (at due (top ∷ rest)) next
         → Leads (at due (top ∷ rest)) next
     clear due top rest c ask =
-        let behind = clear_step image costs list y x facts invalid top rest m next ask.steps (ask.closed top rest refl c.plain) ask.meets due ask.running ask.after c in
+        let behind = clear_step image costs list y x facts invalid top rest m next ask.steps
+        (ask.closed top rest refl c.plain) ask.meets due ask.running ask.after c in
         record {
           holds = behind.holds;
           followed = λ up under are.
@@ -157,7 +159,8 @@ module _ (image costs : List ℕ) (list : List BoundAssertion) (y : StackFacts) 
         }
 
     -- each step of a run
-    pub each_step : (due : Transfer) (frames : List Frame) → Holds image list y x invalid due frames m → IsAsked first (at due frames) next → Leads (at due frames) next
+    pub each_step : (due : Transfer) (frames : List Frame) → Holds image list y x invalid due frames m → IsAsked first (at due frames) next
+        → Leads (at due frames) next
     each_step due [] holds ask = record {
       holds = none due;
       followed = λ top rest are. cc;

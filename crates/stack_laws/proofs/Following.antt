@@ -48,7 +48,8 @@ module _ (image costs : List ℕ) (list : List BoundAssertion) (y : StackFacts) 
       (meets : MeetsEach list (sight_of image m true))
     where
       -- a step that is taken from a machine without a stub's frame
-      taken : (due : Transfer) → IsRunning image invalid (record { machine = m; due = due; frames = top ∷ rest }) → IsClear image list y x invalid due top rest m
+      taken : (due : Transfer) → IsRunning image invalid (record { machine = m; due = due; frames = top ∷ rest })
+          → IsClear image list y x invalid due top rest m
           → IsTaken image costs list y x invalid due top rest m next
       taken due running clear = record {
         running = running;
@@ -71,7 +72,8 @@ module _ (image costs : List ℕ) (list : List BoundAssertion) (y : StackFacts) 
               plain = clear.plain;
               entered = clear.entered;
               stands = goes.stands;
-              waiting = writes_stay x invalid top m next (after.mask).below used (after.mask).used (goes.stands).shallow goes.writes image y rest clear.waiting clear.hanging clear.high;
+              waiting = writes_stay x invalid top m next (after.mask).below used (after.mask).used
+                  (goes.stands).shallow goes.writes image y rest clear.waiting clear.hanging clear.high;
               hanging = clear.hanging;
               high = clear.high;
             });
@@ -91,7 +93,8 @@ module _ (image costs : List ℕ) (list : List BoundAssertion) (y : StackFacts) 
           let shallow : depth_from top.start.cwp next.cwp < 2 = subst (λ (d : ℕ). d < 2) same_depth (clear.stands).shallow in
           let same : place_of (Calls target address) top m ≡ waiting_place top G =
           λ i. record { sub = top.sub; pc = (running.due).pc i; next = Into target; depth = same_depth i } in
-          let below = writes_stay x invalid top m next (after.mask).below used (after.mask).used shallow goes.writes image y rest clear.waiting clear.hanging clear.high in
+          let below = writes_stay x invalid top m next (after.mask).below used
+          (after.mask).used shallow goes.writes image y rest clear.waiting clear.hanging clear.high in
           let waits : Waits (y (top ∷ rest)) x top G next = record {
             state = (clear.stands).state;
             is = subst (λ (p : Place). state_in (y (top ∷ rest) (key.Node p)) ≡ Some (clear.stands).state) same (clear.stands).is;
@@ -147,7 +150,8 @@ module _ (image costs : List ℕ) (list : List BoundAssertion) (y : StackFacts) 
 
         waiting_after : AreWaiting y x top rest next
         waiting_after =
-            writes_stay x invalid top m next (after.mask).below (top_used invalid top rest clear.high) (after.mask).used shallow goes_out.writes image y rest clear.waiting
+            writes_stay x invalid top m next (after.mask).below (top_used invalid top rest clear.high)
+            (after.mask).used shallow goes_out.writes image y rest clear.waiting
             clear.hanging
             clear.high
 
@@ -176,7 +180,12 @@ module _ (image costs : List ℕ) (list : List BoundAssertion) (y : StackFacts) 
                 hanging = hanging.1;
                 high = high.2;
               });
-              followed = (record { skip = goes.skip; comes = goes.comes; pc = goes.pc; npc = goes.npc; window = goes.window }, (on.edge, (waiting.0).kept), goes.still, goes.whole);
+              followed = (
+                record { skip = goes.skip; comes = goes.comes; pc = goes.pc; npc = goes.npc; window = goes.window },
+                (on.edge, (waiting.0).kept),
+                goes.still,
+                goes.whole,
+              );
             }
 
       -- each step from a machine without a stub's frame
@@ -194,15 +203,19 @@ module _ (image costs : List ℕ) (list : List BoundAssertion) (y : StackFacts) 
     pub goes : GoesBack y x lowest (below ∷ rest) next
     pub still : transfer_of image m ≡ Stays
 
-  pub popped : (lowest below : Frame) (rest : List Frame) (m next : Machine) → IsRunning image invalid (record { machine = m; due = Returns; frames = lowest ∷ below ∷ rest })
+  -- the pop of the lowest frame of a stub
+  pub popped : (lowest below : Frame) (rest : List Frame) (m next : Machine)
+      → IsRunning image invalid (record { machine = m; due = Returns; frames = lowest ∷ below ∷ rest })
       → IsRunning image invalid (record { machine = next; due = transfer_of image m; frames = below ∷ rest }) → StepsTo image costs m next
-      → IsPushed image invalid lowest → is_stub list lowest.sub ≡ true → StubReturns (root_window lowest (below ∷ rest)) lowest next → ArePlain list (below ∷ rest)
+      → IsPushed image invalid lowest → is_stub list lowest.sub ≡ true → StubReturns (root_window lowest (below ∷ rest)) lowest next
+      → ArePlain list (below ∷ rest)
       → AreEntered invalid (below ∷ rest) → AreWaiting y x lowest (below ∷ rest) lowest.start → AreHanging image y x lowest (below ∷ rest)
       → AreHigh invalid (lowest ∷ below ∷ rest) → IsPopped lowest below rest m next
   popped lowest below rest m next running after steps was stub back plain entered waiting hanging high =
       let writes = (facts.stubs) lowest.sub stub in
       let up = up_parts effects_of_stub (summary_in x lowest.sub) writes in
-      let on = pops_go_on image costs invalid (record { machine = m; due = Returns; frames = lowest ∷ below ∷ rest }) next lowest running refl steps was.word was.call back.pc in
+      let on = pops_go_on image costs invalid
+      (record { machine = m; due = Returns; frames = lowest ∷ below ∷ rest }) next lowest running refl steps was.word was.call back.pc in
       let used = top_used invalid lowest (below ∷ rest) high in
       let wait = stubs_stay x invalid (root_window lowest (below ∷ rest)) lowest next (after.mask).below used (root_in_use invalid lowest (below ∷ rest) high)
       (root_is_highest invalid lowest (below ∷ rest) high)

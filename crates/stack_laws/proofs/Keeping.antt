@@ -69,6 +69,7 @@ module _
     abbrev Owns : Frame → Type 0
     Owns G = (H : Frame) (c : ℕ) → IsSome H → frame_level invalid G ≤ frame_level invalid H → c < 48 → Changed H c → IsOwn x G (place_of H.start.cwp c)
 
+    -- so is each frame of a stack
     abbrev pub AreSome : List Frame → Type 0
     AreSome [] = Unit {0}
     AreSome (F ∷ rest) = IsSome F × AreSome rest

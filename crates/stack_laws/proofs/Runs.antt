@@ -50,7 +50,8 @@ module _
     here i = config_at image first rest i
 
     -- what a step from a place is asked
-    asked : (i : ℕ) → i < length rest → IsBeforeGaps image list x first rest (suc i) → IsAsked image costs list y x ask.facts invalid first (here i) (here (suc i)).machine
+    asked : (i : ℕ) → i < length rest → IsBeforeGaps image list x first rest (suc i)
+        → IsAsked image costs list y x ask.facts invalid first (here i) (here (suc i)).machine
     asked i within before =
         let steps : StepsTo image costs (here i).machine (here (suc i)).machine = ((at_places image costs first rest ask.runs).steps) i within in
         record {
@@ -93,7 +94,8 @@ module _
     holds_at zero within before = begins
     holds_at (suc i) within before =
         let ask_there = asked i (omega arith) before in
-        let lead = each_step image costs list y x ask.facts invalid first (here i).machine (here (suc i)).machine (here i).due (here i).frames (holds_at i (omega arith) (earlier i before)) ask_there in
+        let lead = each_step image costs list y x ask.facts invalid first (here i).machine (here (suc i)).machine (here i).due (here i).frames
+        (holds_at i (omega arith) (earlier i before)) ask_there in
         subst HoldsAt (sym (next_is i (omega arith))) lead.holds
 
     leads : (i : ℕ) → i < length rest → IsBeforeGaps image list x first rest (suc i)
@@ -111,6 +113,10 @@ module _
           subst (λ (c : Config). IsStepFollowed image list y x (here i) c top below) (sym (next_is i less)) ((leads i less behind).followed top below are);
     }
 
+-- Up to its first open instruction each place of a run is followed. A state stands at each machine without a stub's frame
+-- and covers it; each frame below waits at the delay instruction of its call and keeps the cells that the one that it
+-- called may not write; each step within a frame is an edge, each push a call, and each pop lands behind its call in the
+-- window of its push and goes on along an edge.
 pub runs_followed : RunsAreFollowed
 runs_followed image costs list y x root first rest ask =
     let run = runs_running image costs root first rest ask.bytes ask.begins ask.runs in

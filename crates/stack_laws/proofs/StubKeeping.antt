@@ -1,5 +1,6 @@
 -- What the frames below a subprogram that isn't looked into keep until it is popped.
-use Rattle.std.proofs.Common.{◌≡◌, ℕ, zero, suc, ◌+◌, ◌-◌, ◌*◌, ◌/◌, ◌%◌, ◌<◌, ◌≤◌, ◌⊎◌, inl, inr, ◌&&◌, ◌||◌, Bool, true, false, List, [], ◌∷◌, refl, sym, ap, subst, ◌∙◌, arith}
+use Rattle.std.proofs.Common.{◌≡◌, ℕ, zero, suc, ◌+◌, ◌-◌, ◌*◌, ◌/◌, ◌%◌, ◌<◌, ◌≤◌, ◌⊎◌, inl, inr, ◌&&◌, ◌||◌, Bool, true, false, List, [], ◌∷◌, refl}
+use Rattle.std.proofs.Common.{sym, ap, subst, ◌∙◌, arith}
 use Rattle.std.specs.Prelude.{nat_lt, nat_le, not, slice_index}
 use Rattle.std.proofs.lemmas.Bool.{cases_lt, and_parts}
 use Rattle.std.proofs.lemmas.Bool.Decides.{nat_tests, eqb_tells}
@@ -179,7 +180,8 @@ module _
 
     may_write : (c : ℕ) → c < 48 → is_outer c ≡ true → has_cell (summary_in x lowest.sub).written c ≡ true
     may_write c within outer =
-        within_has effects_of_stub.written (summary_in x lowest.sub).written (up_parts effects_of_stub (summary_in x lowest.sub) writes).written c (stub_has c within outer)
+        within_has effects_of_stub.written (summary_in x lowest.sub).written (up_parts effects_of_stub (summary_in x lowest.sub) writes).written c
+        (stub_has c within outer)
 
     owns : (H : Frame) (c : ℕ) → IsWithin H → frame_level invalid lowest ≤ frame_level invalid H → c < 48 → Changed H c
         → IsOwn x lowest (place_of H.start.cwp c)
@@ -238,4 +240,5 @@ module _
     pub stubs_stay : (image : List ℕ) (y : StackFacts) (rest : List Frame) → AreWaiting y x lowest rest lowest.start → AreHanging image y x lowest rest
         → AreHigh invalid (lowest ∷ rest) → root_window lowest rest ≡ root → AreWaiting y x lowest rest next
     stubs_stay image y rest waiting hanging high is =
-        stay x invalid lowest.start next IsWithin Changed kept between image y lowest rest waiting hanging high (are_within lowest rest high (omega arith) is) owns
+        stay x invalid lowest.start next IsWithin Changed kept between image y lowest rest waiting hanging high
+        (are_within lowest rest high (omega arith) is) owns

@@ -56,7 +56,8 @@ module _
         → IsCellBetween G.start.cwp (place_of H.start.cwp c)
     between G H c middle there further within written =
         let d : ℕ = depth_from top.start.cwp next.cwp in
-        let level : level_above invalid top.start.cwp ≡ level_above invalid next.cwp + d = (depths.level) invalid top.start.cwp next.cwp below used here shallow in
+        let level : level_above invalid top.start.cwp ≡ level_above invalid next.cwp + d =
+        (depths.level) invalid top.start.cwp next.cwp below used here shallow in
         let least : level_above invalid next.cwp ≤ level_above invalid top.start.cwp = omega arith in
         let reached : IsReached invalid top.start.cwp G.start.cwp H.start.cwp d written.register = record {
           invalid_window = below;

@@ -68,7 +68,8 @@ IsFollowed image y x Returns after top rest m next = Lands x top next × GoesBac
 
 -- so is each step from a machine without a stub's frame; of a step in a stub's frame only this is said, that where it
 -- pops the lowest one it goes back
-pub record IsStepFollowed (image : List ℕ) (list : List BoundAssertion) (y : StackFacts) (x : Facts) (c next : Config) (top : Frame) (rest : List Frame) : Type 0 where
+pub record IsStepFollowed (image : List ℕ) (list : List BoundAssertion) (y : StackFacts) (x : Facts) (c next : Config) (top : Frame)
+    (rest : List Frame) : Type 0 where
   pub plain : ArePlain list (top ∷ rest) → IsFollowed image y x c.due next.due top rest c.machine next.machine
   pub stub : is_stub list top.sub ≡ true → ArePlain list rest → c.due ≡ Returns
       → Lands x top next.machine × GoesBack y x top rest next.machine × (next.due ≡ Stays)

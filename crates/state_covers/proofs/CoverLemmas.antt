@@ -30,9 +30,11 @@ use Rattle.value_lattice.specs.declared.value.Value.TheVariants.{Words, Ret}
 pub top_has : (w ra : ℕ) → w < 2 ^ 32 → Has top w ra
 top_has w ra within = (under_any Ret).words w w within within refl
 
+-- the cells of a machine's frame hold words, and cell 0 holds 0
 pub machines_have_contents : MachinesHaveContents
 machines_have_contents m cwp is = record { words = λ c low. content_word cwp m c is; zero_cell = refl }
 
+-- a state that is at least one that is right about cells and condition codes is right about them
 pub greater_states_say : GreaterStatesSay
 greater_states_say a b ra contents f up are address says =
     record {
@@ -49,12 +51,14 @@ greater_states_say a b ra contents f up are address says =
     cells : (c : ℕ) → c < 48 → Has (cell_at b c) (contents c) ra
     cells c low = elim (cases_lt c (length a.cells)) [
       | inl inside ↦
-          (ordered (cell_at a c) (cell_at b c) (cells_at a.cells b.cells c parts.0 inside)).up.words (contents c) ra ((are.words) c low) address ((says.cells) c low)
+          (ordered (cell_at a c) (cell_at b c) (cells_at a.cells b.cells c parts.0 inside)).up.words (contents c) ra ((are.words) c low) address
+          ((says.cells) c low)
       | inr past ↦
           (let same = cells_length a.cells b.cells parts.0 in
           subst (λ (v : Value). Has v (contents c) ra) (sym (get_or_past b.cells c top (omega arith))) (top_has (contents c) ra ((are.words) c low)))
     ]
 
+-- a state that is at least one that covers a machine covers it
 pub greater_states_cover : GreaterStatesCover
 greater_states_cover a b depth F m up is address covers =
     record {
@@ -136,6 +140,7 @@ forgets mask (v ∷ vs) ra old new size are none same each (suc k) low =
     by true is = top_has (new (suc k)) ra ((are.words) (suc k) low)
     by false is = subst (λ (x : ℕ). Has (cell_in vs k) x ra) (sym (same (suc k) low is)) (each (suc k) low)
 
+-- a state stays right where what is written to it is written to the cells
 pub writes_say : WritesSay
 writes_say =
     record {
@@ -145,7 +150,8 @@ writes_say =
       };
       value = λ s ra contents f c v size has says. record { cells = valued s.cells ra contents c v size has says.cells; flags = says.flags };
       flags = λ s ra contents f next known means says. record { cells = says.cells; flags = means };
-      forgotten = λ s ra mask old new f next size are none same says. record { cells = forgets mask s.cells ra old new size are none same says.cells; flags = tt };
+      forgotten = λ s ra mask old new f next size are none same says.
+          record { cells = forgets mask s.cells ra old new size are none same says.cells; flags = tt };
     }
 
 -- the value of a cell at an entry
@@ -153,23 +159,27 @@ pub entry_at : (c : ℕ) → c < 48 → cell_at entry_state c ≡ entry_cell c
 unfolding entry_cells
 entry_at c low = get_or-map-range_with_len entry_cell 0 48 c c top low (omega arith)
 
+-- the state of a subprogram's entry is right where r15 holds the return address
 pub entries_say : EntriesSay
 entries_say ra contents f are link address = record { cells = cells; flags = tt } where
   cells : (c : ℕ) → c < 48 → Has (cell_at entry_state c) (contents c) ra
   cells c low = subst (λ (v : Value). Has v (contents c) ra) (sym (entry_at c low)) (elim (eqb_tells c 0) [
-    | inl none ↦ subst (λ (k : ℕ). Has (entry_cell k) (contents k) ra) (sym none.1) (subst (λ (x : ℕ). Has (Words (0 ∷ [])) x ra) (sym are.zero_cell) (0, omega arith, refl))
+    | inl none ↦ subst (λ (k : ℕ). Has (entry_cell k) (contents k) ra) (sym none.1)
+        (subst (λ (x : ℕ). Has (Words (0 ∷ [])) x ra) (sym are.zero_cell) (0, omega arith, refl))
     | inr some ↦ elim (eqb_tells c 15) [
       | inl is ↦ subst (λ (k : ℕ). Has (entry_cell k) (contents k) ra) (sym is.1) link
       | inr other ↦ (let t = some.0 in let u = other.0 in rw (t, u) (top_has (contents c) ra ((are.words) c low)))
     ]
   ])
 
+-- the state of a subprogram's entry covers the first machine of its frame
 pub entries_cover : EntriesCover
 entries_cover F is link =
     let w = is.window in
     let at : F.start.cwp ≡ window_at F.start.cwp 0 = omega arith in
     let own : register_of F.start 15 ≡ content_of F.start F.start.cwp 15 =
-    (registers_hold_contents.read) F.start.cwp 0 F.start 15 (record { window = is.window; shallow = omega arith; is = at; size = is.registers }) (omega arith) in
+    (registers_hold_contents.read) F.start.cwp 0 F.start 15 (record { window = is.window; shallow = omega arith; is = at; size = is.registers })
+    (omega arith) in
     record {
       window = at;
       says = entries_say F.caller (content_of F.start F.start.cwp) (flags_in F.start) (machines_have_contents F.start F.start.cwp is) (sym own ∙ link)

@@ -71,14 +71,17 @@ sign_asked condition few is f g same = elim (eqb_tells condition 6) [
 result : (cell condition : ℕ) (contents : ℕ → ℕ) (f : Flags) → condition < 16 → ((condition % 8 == 1) || (condition % 8 == 6)) ≡ true
     → contents cell < 2 ^ 32 → FlagsMean (Res cell) contents f → holds_of condition f ≡ holds_of condition (difference_flags_of (contents cell) 0 false)
 result cell condition contents f few asks word shows = elim (eqb_tells (condition % 8) 1) [
-  | inl one ↦ zero_asked condition few one.1 f (difference_flags_of (contents cell) 0 false) (shows.zero ∙ sym (ap (λ (w : ℕ). w == 0) (less_zero (contents cell) word)))
+  | inl one ↦ zero_asked condition few one.1 f (difference_flags_of (contents cell) 0 false)
+      (shows.zero ∙ sym (ap (λ (w : ℕ). w == 0) (less_zero (contents cell) word)))
   | inr other ↦ elim (eqb_tells (condition % 8) 6) [
     | inl six ↦
         sign_asked condition few six.1 f (difference_flags_of (contents cell) 0 false)
         (shows.negative ∙ sym (ap (λ (w : ℕ). nat_le (2 ^ 31) w) (less_zero (contents cell) word)))
-    | inr none ↦ (let no : ((condition % 8 == 1) || (condition % 8 == 6)) ≡ false = (let t = other.0 in let u = none.0 in rw (t, u) refl) in absurd (false≢true (sym no ∙ asks)))
+    | inr none ↦ (let no : ((condition % 8 == 1) || (condition % 8 == 6)) ≡ false =
+        (let t = other.0 in let u = none.0 in rw (t, u) refl) in absurd (false≢true (sym no ∙ asks)))
   ]
 ]
 
+-- what a condition over the condition codes says of the cells that a state names
 pub conditions_are_known : ConditionsAreKnown
 conditions_are_known = record { compared = compared; result = result }

@@ -1,5 +1,6 @@
 -- Each instruction does to cells and condition codes what its step says.
-use Rattle.std.proofs.Common.{◌≡◌, ℕ, pos, negsuc, ◌+◌, ◌*◌, ◌%◌, ◌^◌, ◌<◌, inl, inr, ◌&&◌, Bool, true, false, List, Option, Some, None, length, refl, sym, ap, subst, ◌∙◌, arith, cond, eqb, eq-eqb}
+use Rattle.std.proofs.Common.{◌≡◌, ℕ, pos, negsuc, ◌+◌, ◌*◌, ◌%◌, ◌^◌, ◌<◌, inl, inr, ◌&&◌, Bool, true, false, List, Option, Some, None, length, refl}
+use Rattle.std.proofs.Common.{sym, ap, subst, ◌∙◌, arith, cond, eqb, eq-eqb}
 use Rattle.std.specs.Prelude.{◌==◌, not, nat_lt, slice_set, if◌then◌else◌}
 use Rattle.std.proofs.lemmas.Bool.{and_parts, cases_lt, eqb-true, false≢true}
 use Rattle.std.proofs.lemmas.Bool.Decides.{nat_tests}
@@ -18,7 +19,9 @@ use Rattle.sparc_decode.specs.declared.instruction.AluOp.{AluOp}
 use Rattle.sparc_decode.specs.declared.instruction.AluOp.TheVariants as alu
 use Rattle.sparc_decode.specs.declared.instruction.FloatKind.{FloatKind}
 use Rattle.sparc_decode.specs.declared.instruction.Instr.{Instr}
-use Rattle.sparc_decode.specs.declared.instruction.Instr.TheVariants.{Call, Unimp, Sethi, Branch, FloatBranch, Alu, Tagged, MulStep, Shift, ReadY, WriteY, FloatOp, FloatCmp, Jmpl, Flush, Save, Restore, Ticc, Load, Store, Atomic, FloatMem, Unmodelled as UnmodelledWord, Unknown, Multiply, Divide}
+use Rattle.sparc_decode.specs.declared.instruction.Instr.TheVariants.{Call, Unimp, Sethi, Branch, FloatBranch, Alu, Tagged, MulStep, Shift, ReadY}
+use Rattle.sparc_decode.specs.declared.instruction.Instr.TheVariants.{WriteY, FloatOp, FloatCmp, Jmpl, Flush, Save, Restore, Ticc, Load, Store}
+use Rattle.sparc_decode.specs.declared.instruction.Instr.TheVariants.{Atomic, FloatMem, Unmodelled as UnmodelledWord, Unknown, Multiply, Divide}
 use Rattle.sparc_decode.specs.declared.instruction.LoadKind.{LoadKind}
 use Rattle.sparc_decode.specs.declared.instruction.LoadKind.TheVariants.{Ld, Ldub, Lduh, Ldd, Ldsb, Ldsh}
 use Rattle.sparc_decode.specs.declared.instruction.Second.{Second}
@@ -28,10 +31,14 @@ use Rattle.sparc_decode.specs.declared.instruction.ShiftOp.TheVariants.{Sll, Srl
 use Rattle.sparc_decode.specs.declared.instruction.StoreKind.{StoreKind}
 use Rattle.sparc_decode.specs.declared.instruction.TaggedOp.{TaggedOp}
 use Rattle.sparc_decode.specs.declared.instruction.TaggedOp.TheVariants.{Taddcc, Tsubcc, Taddcctv, Tsubcctv}
-use Rattle.sparc_machine.specs.Effect.{Effect, Done, Trapped, goes_on, flags_in, with_flags, flags_from, is_in_order, in_order, target_of, address_in, alu_result, alu_flags, operated, tagged_result, shift_result, branched, float_taken, jumped, is_invalid, turned, freely_flagged, read_double, read_one, read_into, load_effect, is_odd_double_load, write_trap, store_effect, is_odd_double_store, atomic_effect, float_effect, unless_trapped, product_of, effect_of}
+use Rattle.sparc_machine.specs.Effect.{Effect, Done, Trapped, goes_on, flags_in, with_flags, flags_from, is_in_order, in_order, target_of, address_in}
+use Rattle.sparc_machine.specs.Effect.{alu_result, alu_flags, operated, tagged_result, shift_result, branched, float_taken, jumped, is_invalid}
+use Rattle.sparc_machine.specs.Effect.{turned, freely_flagged, read_double, read_one, read_into, load_effect, is_odd_double_load, write_trap}
+use Rattle.sparc_machine.specs.Effect.{store_effect, is_odd_double_store, atomic_effect, float_effect, unless_trapped, product_of, effect_of}
 use Rattle.sparc_machine.specs.Frame.{IsFree, is_return, lets_call}
 use Rattle.sparc_machine.specs.Machine.{IsMachine, register_of, operand_of, with_register, going_to}
-use Rattle.sparc_machine.specs.Memory.{constant_bytes, extended, load_size, store_size, atomic_size, float_size, is_float_store, read_number, first_word, second_word, sign_extended}
+use Rattle.sparc_machine.specs.Memory.{constant_bytes, extended, load_size, store_size, atomic_size, float_size, is_float_store, read_number}
+use Rattle.sparc_machine.specs.Memory.{first_word, second_word, sign_extended}
 use Rattle.sparc_machine.specs.Register.{physical_of}
 use Rattle.sparc_machine.specs.declared.free.Free.{Free}
 use Rattle.sparc_machine.specs.declared.machine.Machine.{Machine}
@@ -40,10 +47,12 @@ use Rattle.sparc_machine.specs.declared.trap.Trap.TheVariants.{Misaligned, Unmod
 use Rattle.sparc_runs.proofs.Bounds.{register_word, operand_word, alu_word, shift_word, tagged_word, loaded_word, first_below, second_below}
 use Rattle.sparc_runs.specs.Sound.{AreBytes}
 use Rattle.step_covers.proofs.CodeLemmas.{codes_mean}
-use Rattle.step_covers.proofs.FollowLemmas.{window_kept, flags_kept, register_is, operand_is, new_contents, new_there, new_elsewhere, sets_follow, nothing_follows, going_follows}
+use Rattle.step_covers.proofs.FollowLemmas.{window_kept, flags_kept, register_is, operand_is, new_contents, new_there, new_elsewhere, sets_follow}
+use Rattle.step_covers.proofs.FollowLemmas.{nothing_follows, going_follows}
 use Rattle.step_covers.proofs.ReadLemmas.{byte_read, half_read, word_is_constant}
 use Rattle.step_covers.specs.Follows.{Gives, FlagsFollow, FollowsIn}
-use Rattle.transfer_acts.specs.Act.{act_of, behind, in_line, is_next, call_to, calling, jump_to, is_save, linked, open_instruction, plain, directions, test_of, untested, save, restore, sum_of}
+use Rattle.transfer_acts.specs.Act.{act_of, behind, in_line, is_next, call_to, calling, jump_to, is_save, linked, open_instruction, plain, directions}
+use Rattle.transfer_acts.specs.Act.{test_of, untested, save, restore, sum_of}
 use Rattle.transfer_acts.specs.Flag.{of_operation, where_set}
 use Rattle.transfer_acts.specs.Operand.{register, operand, operation, tagged_operation, shift_operation}
 use Rattle.transfer_acts.specs.Step.{nothing, sets, applied, read, found}
@@ -207,7 +216,8 @@ module _ (image : List ℕ) (free : Free) (cwp : ℕ) (p : Place) (m : Machine) 
       let word = machine.pc in
       let x : Machine = with_register m rd m.pc in
       going_follows image (sets p.depth rd (Exactly p.pc) None) cwp m x x.npc target
-      (sets_follow cwp p.depth m m refl at rd m.pc low image (Exactly p.pc) None (record { word = word; may = (let e : m.pc ≡ p.pc % 2 ^ 32 = omega arith in e) }) refl)
+      (sets_follow cwp p.depth m m refl at rd m.pc low image (Exactly p.pc) None
+      (record { word = word; may = (let e : m.pc ≡ p.pc % 2 ^ 32 = omega arith in e) }) refl)
 
   linked_follows : (delay : Option Instr) (target : ℕ) (call jump : Aim)
       → ActFollows (calling p delay call jump) (in_order m (Done (going_to (with_register m 15 m.pc) target) false))
@@ -258,7 +268,8 @@ module _ (image : List ℕ) (free : Free) (cwp : ℕ) (p : Place) (m : Machine) 
         either (is_save delay) open_instruction
         (linked p 15 (if lets_call delay then CallsTo (sum_of p rs1 second Functions) else JumpsTo (sum_of p rs1 second Labels))) _ tt
         (jump_effect (sets p.depth 15 (Exactly p.pc) None) rd (address_in m rs1 second)
-        (subst (λ (r : ℕ). FollowsIn image (sets p.depth 15 (Exactly p.pc) None) cwp m (going_to (with_register m r m.pc) (address_in m rs1 second))) (sym (is refl))
+        (subst (λ (r : ℕ). FollowsIn image (sets p.depth 15 (Exactly p.pc) None) cwp m (going_to (with_register m r m.pc) (address_in m rs1 second)))
+        (sym (is refl))
         (linking 15 (address_in m rs1 second) (omega arith))))
 
   -- a branch writes nothing
@@ -300,7 +311,8 @@ module _ (image : List ℕ) (free : Free) (cwp : ℕ) (p : Place) (m : Machine) 
         let here : m.cwp ≡ window_at cwp 0 = subst (λ (d : ℕ). m.cwp ≡ window_at cwp d) zero_depth at.is in
         let window = at.window in
         let there : (m.cwp + 7) % 8 ≡ window_at cwp 1 = omega arith in
-        subst (λ (d : ℕ). StepFollows (sets 1 rd (applied op.Add d rs1 second) None) (turned m ((m.cwp + 7) % 8) Overflow rd (address_in m rs1 second))) zero_depth
+        subst (λ (d : ℕ). StepFollows (sets 1 rd (applied op.Add d rs1 second) None)
+        (turned m ((m.cwp + 7) % 8) Overflow rd (address_in m rs1 second))) zero_depth
         (turning 1 ((m.cwp + 7) % 8) rd rs1 second Overflow (omega arith) there low near range)
 
   restore_follows : (rd rs1 : ℕ) (second : Second) → rd < 32 → rs1 < 32 → IsOperand second
@@ -315,7 +327,8 @@ module _ (image : List ℕ) (free : Free) (cwp : ℕ) (p : Place) (m : Machine) 
         let here : m.cwp ≡ window_at cwp 1 = subst (λ (d : ℕ). m.cwp ≡ window_at cwp d) one_depth at.is in
         let window = at.window in
         let there : (m.cwp + 1) % 8 ≡ window_at cwp 0 = omega arith in
-        subst (λ (d : ℕ). StepFollows (sets 0 rd (applied op.Add d rs1 second) None) (turned m ((m.cwp + 1) % 8) Underflow rd (address_in m rs1 second))) one_depth
+        subst (λ (d : ℕ). StepFollows (sets 0 rd (applied op.Add d rs1 second) None)
+        (turned m ((m.cwp + 1) % 8) Underflow rd (address_in m rs1 second))) one_depth
         (turning 0 ((m.cwp + 1) % 8) rd rs1 second Underflow (omega arith) there low near range)
 
   -- a word of memory: where a word can be read, that one
@@ -404,18 +417,30 @@ module _ (image : List ℕ) (free : Free) (cwp : ℕ) (p : Place) (m : Machine) 
   load_by Ld rd rs1 second low near range even aligned = load_one Ld rd rs1 second low aligned (loads_word rs1 second near range aligned)
   load_by Ldub rd rs1 second low near range even aligned =
       load_one Ldub rd rs1 second low aligned
-      (record { word = loaded_word Ldub image (address_in m rs1 second) free.first bytes (λ other. cc); may = byte_between _ (small_byte (address_in m rs1 second)) })
+      (record {
+        word = loaded_word Ldub image (address_in m rs1 second) free.first bytes (λ other. cc);
+        may = byte_between _ (small_byte (address_in m rs1 second));
+      })
   load_by Lduh rd rs1 second low near range even aligned =
       load_one Lduh rd rs1 second low aligned
-      (record { word = loaded_word Lduh image (address_in m rs1 second) free.first bytes (λ other. cc); may = half_between _ (small_half (address_in m rs1 second)) })
+      (record {
+        word = loaded_word Lduh image (address_in m rs1 second) free.first bytes (λ other. cc);
+        may = half_between _ (small_half (address_in m rs1 second));
+      })
   load_by Ldd rd rs1 second low near range even aligned =
       load_two rd (address_in m rs1 second) (let odd : rd % 2 ≡ 1 → ⊥ = (λ one. false≢true (sym even ∙ eq-eqb (rd % 2) 1 one)) in omega arith)
   load_by Ldsb rd rs1 second low near range even aligned =
       load_one Ldsb rd rs1 second low aligned
-      (record { word = loaded_word Ldsb image (address_in m rs1 second) free.first bytes (λ other. cc); may = signed_byte _ (small_byte (address_in m rs1 second)) })
+      (record {
+        word = loaded_word Ldsb image (address_in m rs1 second) free.first bytes (λ other. cc);
+        may = signed_byte _ (small_byte (address_in m rs1 second));
+      })
   load_by Ldsh rd rs1 second low near range even aligned =
       load_one Ldsh rd rs1 second low aligned
-      (record { word = loaded_word Ldsh image (address_in m rs1 second) free.first bytes (λ other. cc); may = signed_half _ (small_half (address_in m rs1 second)) })
+      (record {
+        word = loaded_word Ldsh image (address_in m rs1 second) free.first bytes (λ other. cc);
+        may = signed_half _ (small_half (address_in m rs1 second));
+      })
 
   load_follows : (kind : LoadKind) (rd rs1 : ℕ) (second : Second) → rd < 32 → rs1 < 32 → IsOperand second
       → ActFollows (if is_odd_double_load kind rd then open_instruction else plain (read p.depth kind rd rs1 second))

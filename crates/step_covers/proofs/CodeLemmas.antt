@@ -159,13 +159,15 @@ module _ (depth : ℕ) (m : Machine) (machine : IsMachine m) (rd value : ℕ) (l
   logic_at : (known : Known) {result : ℕ} → value ≡ result → FlagsMean known new (logic_flags_of value) → FlagsMean known new (logic_flags_of result)
   logic_at known is means = subst (λ (w : ℕ). FlagsMean known new (logic_flags_of w)) is means
 
-  logic_by : {result : ℕ} → value ≡ result → FlagsMean (of_logic depth rd) new (logic_flags_of value) → FlagsMean (of_logic depth rd) new (logic_flags_of result)
+  logic_by : {result : ℕ} → value ≡ result → FlagsMean (of_logic depth rd) new (logic_flags_of value)
+      → FlagsMean (of_logic depth rd) new (logic_flags_of result)
   logic_by is means = logic_at (of_logic depth rd) is means
 
   word_by : (op : AluOp) (rs1 : ℕ) (second : Second) (carry : Bool) → IsOperand second → value ≡ alu_result op (register_of m rs1) (operand_of m second) carry
       → value < 2 ^ 32
   word_by op rs1 second carry range is =
-      subst (λ (w : ℕ). w < 2 ^ 32) (sym is) (alu_word op (register_of m rs1) (operand_of m second) carry (register_word m rs1 machine) (second_word m second machine range))
+      subst (λ (w : ℕ). w < 2 ^ 32) (sym is)
+      (alu_word op (register_of m rs1) (operand_of m second) carry (register_word m rs1 machine) (second_word m second machine range))
 
   -- the condition codes of each operation
   pub codes_mean : (op : AluOp) (rs1 : ℕ) (second : Second) (carry : Bool) → rs1 < 32 → IsOperand second
@@ -173,7 +175,8 @@ module _ (depth : ℕ) (m : Machine) (machine : IsMachine m) (rd value : ℕ) (l
       → FlagsMean (of_operation op depth rd rs1 second) new (alu_flags op (register_of m rs1) (operand_of m second) carry)
   codes_mean Add rs1 second carry near range is = result_means _ (shows_by is)
   codes_mean And rs1 second carry near range is = logic_by is (logic_means (word_by And rs1 second carry range is))
-  codes_mean Or rs1 second carry near range is = logic_at (of_or depth rd rs1 second) is (or_means rs1 second near range is (word_by Or rs1 second carry range is))
+  codes_mean Or rs1 second carry near range is =
+      logic_at (of_or depth rd rs1 second) is (or_means rs1 second near range is (word_by Or rs1 second carry range is))
   codes_mean Xor rs1 second carry near range is = logic_by is (logic_means (word_by Xor rs1 second carry range is))
   codes_mean Sub rs1 second carry near range is = difference_means rs1 second near range (shows_by is)
   codes_mean Andn rs1 second carry near range is = logic_by is (logic_means (word_by Andn rs1 second carry range is))

@@ -1,5 +1,6 @@
 -- What states that cover machines cover behind a step.
-use Rattle.std.proofs.Common.{◌≡◌, ℕ, ℤ, pos, negsuc, ◌%◌, ◌^◌, ◌<◌, ◌≤◌, inl, inr, true, false, List, [], ◌∷◌, length, Option, Some, None, Contains, refl, sym, ap, subst, ◌∙◌, arith}
+use Rattle.std.proofs.Common.{◌≡◌, ℕ, ℤ, pos, negsuc, ◌%◌, ◌^◌, ◌<◌, ◌≤◌, inl, inr, true, false, List, [], ◌∷◌, length, Option, Some, None, Contains}
+use Rattle.std.proofs.Common.{refl, sym, ap, subst, ◌∙◌, arith}
 use Rattle.std.specs.Prelude.{◌≤ℤ◌, map, IfSome}
 use Rattle.std.specs.Int.{w32, cast_signed}
 use Rattle.std.proofs.lemmas.Bool.Decides.{nat_tests, eqb_tells}
@@ -26,7 +27,8 @@ use Rattle.state_covers.proofs.CoverLemmas.{entries_cover, machines_have_content
 use Rattle.state_covers.specs.Covers.{AreContents, Says}
 use Rattle.step_covers.proofs.SourceLemmas.{have_words}
 use Rattle.step_covers.proofs.StateLemmas.{steps_say, tests_say, narrows_say}
-use Rattle.step_covers.specs.Covered.{IsCovered, IsCoveredSome, SteppedStatesCover, TestedStatesCover, NarrowedStatesCover, MetAssertionsAreKept, EnteredStatesCover, ReturnedStatesCover, AimsAreResolved}
+use Rattle.step_covers.specs.Covered.{IsCovered, IsCoveredSome, SteppedStatesCover, TestedStatesCover, NarrowedStatesCover, MetAssertionsAreKept}
+use Rattle.step_covers.specs.Covered.{EnteredStatesCover, ReturnedStatesCover, AimsAreResolved}
 use Rattle.step_covers.specs.Does.{IsSumIn}
 use Rattle.step_covers.specs.Says.{IsRight, SaysSome, IsInRange}
 use Rattle.transfer_rules.specs.Give.{argument_registers, handed, with_each}
@@ -72,6 +74,7 @@ covered_some t (Some r) depth F m s old before is machine window over says =
       covers = record { window = window; says = says };
     }
 
+-- a state that covers a machine, stepped by the act of its place, covers the next machine, and there is one
 pub steps_cover : SteppedStatesCover
 steps_cover t image step way s depth F m next is machine does =
     covered_some t (stepped t image step s) step.depth F next s depth m is machine does.follows.window
@@ -79,11 +82,13 @@ steps_cover t image step way s depth F m next is machine does =
     (steps_say t image step s F.caller (content_of m F.start.cwp) (content_of next F.start.cwp) (flags_in m) (flags_in next) (right_of t s depth F m is)
     (machines_have_contents next F.start.cwp machine) does.follows.follows)
 
+-- a state that covers a machine covers it where a branch takes a direction that the condition codes take
 pub tests_cover : TestedStatesCover
 tests_cover t test s depth F m is taken =
     covered_some t (tested t test s) depth F m s depth m is is.machine is.covers.window ((states_stay_over.tested) t test s is.thresholds is.over)
     (tests_say t test s F.caller (content_of m F.start.cwp) (flags_in m) (right_of t s depth F m is) taken)
 
+-- a state that covers a machine covers it once it is narrowed by what is asserted, where that holds
 pub narrows_cover : NarrowedStatesCover
 narrows_cover t list p s F m is keeps =
     covered_some t (narrowed t list p s) p.depth F m s p.depth m is is.machine is.covers.window ((states_stay_over.narrowed) t list p s is.thresholds is.over)
@@ -108,6 +113,7 @@ in_range (Some (lo, hi)) w within is =
     let high = rank_up (cast_signed w32 w) hi is.most in
     (omega arith, omega arith)
 
+-- a machine that meets the assertions has in its registers what is asserted at its place, and isn't where none may be
 pub assertions_kept : MetAssertionsAreKept
 assertions_kept image list p cwp m taken sound here meets =
     record {
@@ -157,6 +163,7 @@ handed_has (Words words) w ra other within address has = has
 handed_has (Range lo hi) w ra other within address has = has
 handed_has Ret w ra other within address has = top_has w other within
 
+-- the state of a subprogram's entry with the arguments of a call covers the first machine of its frame
 pub entered_cover : EnteredStatesCover
 entered_cover t s depth F G window shallow is link =
     let entry = entries_cover G is.machine link in
@@ -182,9 +189,30 @@ entered_cover t s depth F G window shallow is link =
         ((machines_have_contents G.start F.start.cwp is.machine).words (cell_of depth r) ((cells_tell_registers_apart.within) depth r low)) is.word
         ((is.covers.says.cells) (cell_of depth r) ((cells_tell_registers_apart.within) depth r low)))
 
-    near : (8 < 32) × ((9 < 32) × ((10 < 32) × ((11 < 32) × ((12 < 32) × ((13 < 32) × ((1 < 32) × ((2 < 32) × ((3 < 32) × ((4 < 32) × ((5 < 32) × ((6 < 32) × ((7 < 32) × Unit {0}))))))))))))
-    near = (omega arith, (omega arith, (omega arith, (omega arith, (omega arith, (omega arith, (omega arith, (omega arith, (omega arith, (omega arith, (omega arith, (omega arith, (omega arith, tt)))))))))))))
+    near : (8 < 32) × ((9 < 32) × ((10 < 32)
+        × ((11 < 32) × ((12 < 32) × ((13 < 32)
+        × ((1 < 32) × ((2 < 32) × ((3 < 32) × ((4 < 32) × ((5 < 32) × ((6 < 32) × ((7 < 32) × Unit {0}))))))))))))
+    near = (
+      omega arith,
+      (
+        omega arith,
+        (
+          omega arith,
+          (
+            omega arith,
+            (
+              omega arith,
+              (
+                omega arith,
+                (omega arith, (omega arith, (omega arith, (omega arith, (omega arith, (omega arith, (omega arith, tt))))))),
+              ),
+            ),
+          ),
+        ),
+      ),
+    )
 
+-- the state of a call, in which the cells that the callee may write are any word, covers a machine that has come back
 pub returned_cover : ReturnedStatesCover
 returned_cover t s mask depth F old m is machine same =
     record {
@@ -195,17 +223,20 @@ returned_cover t s mask depth F old m is machine same =
     }
 
 -- a sum that a transfer goes to
-sum_resolved : (t image : List ℕ) (list : List BoundAssertion) (pc : ℕ) (left right : Right) (kind : Candidates) (s : State) (depth : ℕ) (F : Frame) (m : Machine)
+sum_resolved : (t image : List ℕ) (list : List BoundAssertion) (pc : ℕ) (left right : Right) (kind : Candidates) (s : State) (depth : ℕ) (F : Frame)
+    (m : Machine)
     (target : ℕ) → IsCovered t s depth F m → IsSumIn (content_of m F.start.cwp) left right target
     → IfSome (listed list pc) (λ to. Contains to target × (is_code image target ≡ true))
     → (resolved t image list pc (Computed left right kind) s).whole ≡ true → Contains (resolved t image list pc (Computed left right kind) s).list target
 sum_resolved t image list pc left right kind s depth F m target is aims there whole =
     let words =
-    have_words t s F.caller (content_of m F.start.cwp) (flags_in m) (right_of t s depth F m is) left right aims.first aims.second aims.is_first aims.is_second in
+    have_words t s F.caller (content_of m F.start.cwp) (flags_in m)
+    (right_of t s depth F m is) left right aims.first aims.second aims.is_first aims.is_second in
     subst (λ (x : ℕ). Contains (resolved t image list pc (Computed left right kind) s).list x) (sym aims.is)
     (targets_cover t image list pc s left right kind aims.first aims.second F.caller words (ap (λ (x : ℕ). x % 4) (sym aims.is) ∙ aims.aligned)
     (subst (λ (x : ℕ). IfSome (listed list pc) (λ to. Contains to x × (is_code image x ≡ true))) aims.is there) whole)
 
+-- where a transfer goes nowhere else, its targets have the address to which it goes
 pub aims_resolved : AimsAreResolved
 unfolding resolved
 aims_resolved t image list pc (Fixed a) s depth F m target is aims there whole = (0, omega arith, sym aims)

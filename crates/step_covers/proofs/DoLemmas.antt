@@ -92,7 +92,8 @@ steps_do image cycles binding eight p step way cwp m next here same taken =
           subst (λ (x : Machine). FollowsIn image step cwp m x) (sym s.is)
           (charged_follows image step cwp m s.after (step_cost cycles m.loaded this s.annulled) (mask_of (registers_loaded this)) followed);
       leads =
-          way_leads image cwp p m next here.machine here.at here.pc (even s.free of.i s.after s.annulled does read) eight (instruction_at image (behind p.pc 4)) of.i
+          way_leads image cwp p m next here.machine here.at here.pc (even s.free of.i s.after s.annulled does read) eight
+          (instruction_at image (behind p.pc 4)) of.i
           step way range read (λ ret. lead_back image cycles m next of.i taken at ret) (steps_go image cycles m next of.i taken at) of.act;
     }
   where

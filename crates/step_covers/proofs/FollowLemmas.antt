@@ -28,6 +28,7 @@ window_kept m rd value = by (eqb rd 0) where
   by true = refl
   by false = refl
 
+-- a write to a register leaves the condition codes
 pub flags_kept : (m : Machine) (rd value : ℕ) → flags_in (with_register m rd value) ≡ flags_in m
 flags_kept m rd value = by (eqb rd 0) where
   by : (b : Bool) → flags_in (cond b m (record m { regs = slice_set m.regs (physical_of m.cwp rd) value })) ≡ flags_in m
@@ -43,6 +44,7 @@ module _ (cwp depth : ℕ) (m : Machine) (at : IsAtDepth cwp depth m) (machine :
   pub register_is : (r : ℕ) → r < 32 → IsOperandIn (content_of m cwp) (register depth r) (register_of m r)
   register_is r low = ((cells_tell_registers_apart.within) depth r low, (registers_hold_contents.read) cwp depth m r at low)
 
+  -- a second operand comes to what the cells hold
   pub operand_is : (second : Second) → IsOperand second → IsOperandIn (content_of m cwp) (operand depth second) (operand_of m second)
   operand_is (Reg r) low = register_is r low
   operand_is (Imm n) range = let w : operand_of m (Imm n) < 2 ^ 32 = second_word m (Imm n) machine range in omega arith
@@ -63,7 +65,8 @@ module _ (cwp depth : ℕ) (m base : Machine) (same : base.regs ≡ m.regs) (at 
       ∙ with_content-same (content_of m cwp) (cell_of depth rd) value (λ none. some ((cells_tell_registers_apart.zero) depth rd none))
 
   -- and that of another
-  pub new_elsewhere : (r : ℕ) → r < 32 → (r ≢ rd) ⊎ (rd ≡ 0) → content_of (with_register base rd value) cwp (cell_of depth r) ≡ content_of m cwp (cell_of depth r)
+  pub new_elsewhere : (r : ℕ) → r < 32 → (r ≢ rd) ⊎ (rd ≡ 0)
+      → content_of (with_register base rd value) cwp (cell_of depth r) ≡ content_of m cwp (cell_of depth r)
   new_elsewhere r near (inl other) =
       new_contents (cell_of depth r) ((cells_tell_registers_apart.within) depth r near)
       ∙ with_content-other (content_of m cwp) (cell_of depth rd) value (cell_of depth r)
@@ -86,7 +89,8 @@ module _ (cwp depth : ℕ) (m base : Machine) (same : base.regs ≡ m.regs) (at 
               gives_first = gives;
               gives_second = tt;
               contents = new_contents;
-              flags = subst (λ (g : Flags). FlagsFollow known (content_of (with_register base rd value) cwp) (flags_in m) g) (sym (flags_kept base rd value)) flags;
+              flags = subst (λ (g : Flags). FlagsFollow known (content_of (with_register base rd value) cwp) (flags_in m) g)
+                  (sym (flags_kept base rd value)) flags;
             };
       }
 
@@ -103,6 +107,7 @@ pub going_follows : (image : List ℕ) (step : Step) (cwp : ℕ) (m next : Machi
     → FollowsIn image step cwp m (record next { pc = pc; npc = npc })
 going_follows image step cwp m next pc npc h = record { window = h.window; follows = h.follows }
 
+-- what is charged changes nothing that follows
 pub charged_follows : (image : List ℕ) (step : Step) (cwp : ℕ) (m next : Machine) (cost these : ℕ) → FollowsIn image step cwp m next
     → FollowsIn image step cwp m (charged next cost these)
 charged_follows image step cwp m next cost these h = record { window = h.window; follows = h.follows }

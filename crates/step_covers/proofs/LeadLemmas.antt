@@ -1,5 +1,6 @@
 -- Each instruction goes on as the way of its act says.
-use Rattle.std.proofs.Common.{◌≡◌, ℕ, ℤ, ◌+◌, ◌*◌, ◌%◌, ◌^◌, ◌<◌, inl, inr, ◌&&◌, ◌||◌, Bool, true, false, List, Option, Some, None, refl, sym, ap, subst, ◌∙◌, arith}
+use Rattle.std.proofs.Common.{◌≡◌, ℕ, ℤ, ◌+◌, ◌*◌, ◌%◌, ◌^◌, ◌<◌, inl, inr, ◌&&◌, ◌||◌, Bool, true, false, List, Option, Some, None, refl, sym, ap}
+use Rattle.std.proofs.Common.{subst, ◌∙◌, arith}
 use Rattle.std.specs.Prelude.{◌==◌, if◌then◌else◌}
 use Rattle.std.proofs.lemmas.Bool.{false≢true}
 use Rattle.std.proofs.lemmas.Bool.Decides.{eqb_tells}
@@ -10,7 +11,9 @@ use Rattle.cell_places.proofs.PlaceLemmas.{registers_hold_contents}
 use Rattle.cell_places.specs.Place.{content_of, IsAtDepth}
 use Rattle.sparc_decode.specs.Instr.{InRange, IsOperand}
 use Rattle.sparc_decode.specs.declared.instruction.Instr.{Instr}
-use Rattle.sparc_decode.specs.declared.instruction.Instr.TheVariants.{Call, Unimp, Sethi, Branch, FloatBranch, Alu, Tagged, MulStep, Shift, ReadY, WriteY, FloatOp, FloatCmp, Jmpl, Flush, Save, Restore, Ticc, Load, Store, Atomic, FloatMem, Unmodelled as UnmodelledWord, Unknown, Multiply, Divide}
+use Rattle.sparc_decode.specs.declared.instruction.Instr.TheVariants.{Call, Unimp, Sethi, Branch, FloatBranch, Alu, Tagged, MulStep, Shift, ReadY}
+use Rattle.sparc_decode.specs.declared.instruction.Instr.TheVariants.{WriteY, FloatOp, FloatCmp, Jmpl, Flush, Save, Restore, Ticc, Load, Store}
+use Rattle.sparc_decode.specs.declared.instruction.Instr.TheVariants.{Atomic, FloatMem, Unmodelled as UnmodelledWord, Unknown, Multiply, Divide}
 use Rattle.sparc_decode.specs.declared.instruction.LoadKind.{LoadKind}
 use Rattle.sparc_decode.specs.declared.instruction.LoadKind.TheVariants.{Ld, Ldub, Lduh, Ldd, Ldsb, Ldsh}
 use Rattle.sparc_decode.specs.declared.instruction.Second.{Second}
@@ -24,7 +27,8 @@ use Rattle.sparc_runs.specs.Running.{returns}
 use Rattle.step_covers.proofs.FollowLemmas.{register_is, operand_is}
 use Rattle.step_covers.specs.Does.{AimsAt, Jumps, ExitLeads, WayLeads}
 use Rattle.step_covers.specs.Says.{IsTaken}
-use Rattle.transfer_acts.specs.Act.{act_of, behind, is_next, call_to, calling, jump_to, is_save, linked, open_instruction, plain, branch, directions, test_of, untested, taken, untaken, sum_of}
+use Rattle.transfer_acts.specs.Act.{act_of, behind, is_next, call_to, calling, jump_to, is_save, linked, open_instruction, plain, branch, directions}
+use Rattle.transfer_acts.specs.Act.{test_of, untested, taken, untaken, sum_of}
 use Rattle.transfer_acts.specs.Reading.{is_skip}
 use Rattle.transfer_acts.specs.Step.{nothing, read}
 use Rattle.transfer_rules.specs.declared.act.Act.{Act}
@@ -72,7 +76,8 @@ module _ (image : List ℕ) (cwp : ℕ) (p : Place) (m next : Machine) (machine 
       → ExitLeads (Some (taken p annul condition target test)) (flags_in m) next
   taken_leads annul condition target test leads holds = by annul (condition == 8) leads where
     by : (a always : Bool) → BranchLeads m a always true target next
-        → ExitLeads (Some (if a && always then record { pc = target; npc = behind target 4; test = test } else record { pc = behind p.pc 4; npc = target; test = test }))
+        → ExitLeads (Some (if a && always then record { pc = target; npc = behind target 4; test = test } else record
+        { pc = behind p.pc 4; npc = target; test = test }))
         (flags_in m) next
     by true true h = (h.to, holds)
     by true false h =
@@ -85,8 +90,13 @@ module _ (image : List ℕ) (cwp : ℕ) (p : Place) (m next : Machine) (machine 
       (record { this = leads.to.this ∙ ap (λ (x : ℕ). (x + 8) % 2 ^ 32) pc; after = leads.to.after ∙ ap (λ (x : ℕ). (x + 12) % 2 ^ 32) pc }, holds)
   untaken_leads false condition target test leads holds =
       let order : m.npc ≡ (m.pc + 4) % 2 ^ 32 = leads.order in
-      let eight : (m.npc + 4) % 2 ^ 32 ≡ (m.pc + 8) % 2 ^ 32 = omega arith in
-      (record { this = leads.to.this ∙ order ∙ ap (λ (x : ℕ). (x + 4) % 2 ^ 32) pc; after = leads.to.after ∙ eight ∙ ap (λ (x : ℕ). (x + 8) % 2 ^ 32) pc }, holds)
+      let eight : (m.npc + 4) % 2 ^ 32 ≡ (m.pc + 8) % 2 ^ 32 = omega arith in (
+        record {
+          this = leads.to.this ∙ order ∙ ap (λ (x : ℕ). (x + 4) % 2 ^ 32) pc;
+          after = leads.to.after ∙ eight ∙ ap (λ (x : ℕ). (x + 8) % 2 ^ 32) pc;
+        },
+        holds,
+      )
 
   -- a branch that is or isn't taken, as its test says
   fork_leads : (test : ℕ → Bool → Test) (annul is_taken : Bool) (condition target : ℕ) → (is_taken ≡ true → (condition == 0) ≡ false)
@@ -122,7 +132,8 @@ module _ (image : List ℕ) (cwp : ℕ) (p : Place) (m next : Machine) (machine 
       → BranchLeads m annul (condition == 8) (holds_of condition (flags_in m)) (target_of m.pc disp) next → ActLeads (branch test_of p annul condition disp)
   branch_leads annul condition disp few leads =
       either (is_next p.next p.pc) (Acts (nothing p.depth) (directions test_of p annul condition (target_of p.pc disp))) open_instruction
-      (fork_leads test_of annul (holds_of condition (flags_in m)) condition (target_of p.pc disp) (never_zero condition (flags_in m)) (always_eight condition (flags_in m))
+      (fork_leads test_of annul (holds_of condition (flags_in m)) condition (target_of p.pc disp) (never_zero condition (flags_in m))
+      (always_eight condition (flags_in m))
       (tested_holds condition (holds_of condition (flags_in m)) few refl)
       (subst (λ (x : ℕ). BranchLeads m annul (condition == 8) (holds_of condition (flags_in m)) (target_of x disp) next) pc leads)) tt
 
@@ -181,7 +192,8 @@ module _ (image : List ℕ) (cwp : ℕ) (p : Place) (m next : Machine) (machine 
         back =
             back.behind
             ∙ (λ i. (same i + back_by (Jmpl rd rs1 second)) % 2 ^ 32)
-            ∙ ap (λ (n : ℕ). (content_of m cwp (cell_of p.depth rs1) + n) % 2 ^ 32) (by second ∙ ap (λ (o : Option Instr). if is_skip o then 12 else 8) (sym here));
+            ∙ ap (λ (n : ℕ). (content_of m cwp (cell_of p.depth rs1) + n) % 2 ^ 32)
+            (by second ∙ ap (λ (o : Option Instr). if is_skip o then 12 else 8) (sym here));
       }
     where
       by : (s : Second) → back_by (Jmpl rd rs1 s) ≡ (if is_skip (Some (Jmpl rd rs1 s)) then 12 else 8)
@@ -193,7 +205,8 @@ module _ (image : List ℕ) (cwp : ℕ) (p : Place) (m next : Machine) (machine 
       → ActLeads (jump_to p delay rd rs1 second)
   jump_leads delay rd rs1 second near range here back leads =
       either (rd == 15) (calling p delay (sum_of p rs1 second Functions) (sum_of p rs1 second Labels)) _
-      (linked_leads delay (sum_of p rs1 second Functions) (sum_of p rs1 second Labels) (address_in m rs1 second) (sum_aims rs1 second Functions near range (aligned rd rs1 second here))
+      (linked_leads delay (sum_of p rs1 second Functions) (sum_of p rs1 second Labels) (address_in m rs1 second)
+      (sum_aims rs1 second Functions near range (aligned rd rs1 second here))
       (sum_aims rs1 second Labels near range (aligned rd rs1 second here)) leads)
       (by (is_return rd rs1 second) refl)
     where
@@ -202,7 +215,8 @@ module _ (image : List ℕ) (cwp : ℕ) (p : Place) (m next : Machine) (machine 
       by true is = back_leads rd rs1 second near here (back is) leads
       by false is = jumping (sum_of p rs1 second Labels) (address_in m rs1 second) (sum_aims rs1 second Labels near range (aligned rd rs1 second here)) leads
 
-  read_leads : (kind : LoadKind) (rd rs1 : ℕ) (second : Second) → StandsAt m.npc ((m.npc + 4) % 2 ^ 32) next → ActLeads (plain (read p.depth kind rd rs1 second))
+  read_leads : (kind : LoadKind) (rd rs1 : ℕ) (second : Second) → StandsAt m.npc ((m.npc + 4) % 2 ^ 32) next
+      → ActLeads (plain (read p.depth kind rd rs1 second))
   read_leads Ld rd rs1 second h = h
   read_leads Ldub rd rs1 second h = h
   read_leads Lduh rd rs1 second h = h

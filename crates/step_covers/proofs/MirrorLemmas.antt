@@ -14,6 +14,7 @@ signed_order x y a b = (grind (arith, nat_tests), grind (arith, nat_tests))
 unsigned_order : ComparisonIsUnsignedOrder
 unsigned_order x y a b = (grind (arith, nat_tests), grind (arith, nat_tests))
 
+-- x and y make the condition what y and x make the mirrored one
 pub mirror_exchanges : MirrorExchanges
 mirror_exchanges condition x y below mirrored xw yw = mirror_is equality signed_order unsigned_order x y xw yw condition below mirrored
 

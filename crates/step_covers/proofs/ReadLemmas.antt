@@ -18,6 +18,7 @@ pub record IsConstant (image : List ℕ) (a w : ℕ) : Type 0 where
   pub are : constant_bytes image a 4 ≡ Some these
   pub number : w ≡ big_number 4 these
 
+-- a word that can be read is constant
 pub word_is_constant : (image : List ℕ) (a w : ℕ) → word image a ≡ Some w → IsConstant image a w
 unfolding word_field
 word_is_constant image a w is = by (a % 4 == 0) (held is_read_only_section image a 4) refl refl where
@@ -40,12 +41,14 @@ held_bytes image a n are = by (holder is_read_only_section image a n) where
   by None = tt
   by (Some s) = All-take (λ b. b < 256) n (drop (place_in s a) image) (All-drop (λ b. b < 256) (place_in s a) image are)
 
+-- what a load of a byte finds has 8 bits
 pub byte_read : (image : List ℕ) (a free : ℕ) → AreBytes image → read_number (constant_bytes image a 1) 1 free < 2 ^ 8
 byte_read image a free are = by (constant_bytes image a 1) (held_bytes image a 1 are) where
   by : (o : Option (List ℕ)) → AreHeld o → read_number o 1 free < 2 ^ 8
   by None held_so = omega arith
   by (Some these) held_so = big_from-lt 0 1 these (λ k. below_everywhere 256 these k (omega arith) held_so)
 
+-- what a load of a halfword finds has 16 bits
 pub half_read : (image : List ℕ) (a free : ℕ) → AreBytes image → read_number (constant_bytes image a 2) 2 free < 2 ^ 16
 half_read image a free are = by (constant_bytes image a 2) (held_bytes image a 2 are) where
   by : (o : Option (List ℕ)) → AreHeld o → read_number o 2 free < 2 ^ 16

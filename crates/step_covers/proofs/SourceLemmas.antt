@@ -44,7 +44,8 @@ module _ (t : List ℕ) (s : State) (ra : ℕ) (old : ℕ → ℕ) (f : Flags) (
   -- a source's value has what the source gives
   pub source_has : (image : List ℕ) (source : Source) (w : ℕ) → SourcesCover → Gives image old source w → HasSome (source_value t image s source) w ra
   source_has image Anything w cover gives = (cover.anything) t image s w ra gives.word
-  source_has image (Exactly n) w cover gives = subst (λ (x : ℕ). HasSome (source_value t image s (Exactly n)) x ra) (sym gives.may) ((cover.exactly) t image s n ra)
+  source_has image (Exactly n) w cover gives =
+      subst (λ (x : ℕ). HasSome (source_value t image s (Exactly n)) x ra) (sym gives.may) ((cover.exactly) t image s n ra)
   source_has image (Ranged lo hi) w cover gives = (cover.ranged) t image s lo hi w ra is.thresholds gives.word is.address gives.may
   source_has image (Applied op left right) w cover gives =
       let by = gives.may in

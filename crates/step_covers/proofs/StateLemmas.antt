@@ -1,5 +1,6 @@
 -- What the functions of the analysis leave of a state that is right.
-use Rattle.std.proofs.Common.{◌≡◌, ℕ, ℤ, suc, ◌+◌, ◌%◌, ◌^◌, ◌<◌, ◌≤◌, ◌⊎◌, inl, inr, ◌||◌, Bool, true, false, List, [], ◌∷◌, length, Option, Some, None, Contains, refl, sym, ap, subst, ◌∙◌, arith, get_or, eq-eqb}
+use Rattle.std.proofs.Common.{◌≡◌, ℕ, ℤ, suc, ◌+◌, ◌%◌, ◌^◌, ◌<◌, ◌≤◌, ◌⊎◌, inl, inr, ◌||◌, Bool, true, false, List, [], ◌∷◌, length, Option, Some}
+use Rattle.std.proofs.Common.{None, Contains, refl, sym, ap, subst, ◌∙◌, arith, get_or, eq-eqb}
 use Rattle.std.specs.Prelude.{◌==◌, nat_lt, not, slice_set, if◌then◌else◌}
 use Rattle.std.specs.List.{range_with_len}
 use Rattle.std.specs.Option.{option_map, option_and_then}
@@ -321,6 +322,7 @@ module _ (t : List ℕ) (condition : ℕ) (truth : Bool) (s : State) (ra : ℕ) 
   refined_says (Cmp left right) may means = compared left right may means
   refined_says (Res cell) may means = result cell may means
 
+-- a state that is right is right where a branch takes a direction that the condition codes take
 pub tests_say : TestedStatesSay
 unfolding tested
 tests_say t Always s ra contents f is taken = is.says
@@ -346,10 +348,12 @@ ranges_say : (t : List ℕ) (list : List BoundAssertion) (p : Place) (rs : List 
 ranges_say t list p [] s ra contents f is are address each size says = says
 ranges_say t list p (r ∷ rest) s ra contents f is are address each size says =
     let here = each r (0, omega arith, refl) in
-    let now = range_says t (range list p.pc r) (cell_of p.depth r) s ra contents f is are address ((cells_tell_registers_apart.within) p.depth r here.0) size here.1 says in
+    let now = range_says t (range list p.pc r) (cell_of p.depth r) s ra contents f is are address
+    ((cells_tell_registers_apart.within) p.depth r here.0) size here.1 says in
     then_says (narrowed_to t (range list p.pc r) (cell_of p.depth r) s) (narrowed_by t list p rest) ra contents f now.0 now.1
     (λ at size_at says_at. ranges_say t list p rest at ra contents f is are address (λ k there. each k (later r rest k there)) size_at says_at)
 
+-- a state that is right is right once it is narrowed by what is asserted, where that holds
 pub narrows_say : NarrowedStatesSay
 unfolding narrowed
 narrows_say t list p s ra contents f is keeps =

@@ -12,7 +12,8 @@ use Rattle.abs_state.specs.State.{State, entry_state}
 use Rattle.abs_state.specs.declared.key.Place.{Place}
 use Rattle.bt_image.specs.File.{word_field, half_field}
 use Rattle.bt_image.specs.Image.{holder, held}
-use Rattle.bt_image.specs.Refusal.{first_refusal, checked_refusal, header_refusal, headers_refusal, sections_refusal, section_fault, overlap_refusal, overlap, symbols_refusal, limits_refusal}
+use Rattle.bt_image.specs.Refusal.{first_refusal, checked_refusal, header_refusal, headers_refusal, sections_refusal, section_fault, overlap_refusal}
+use Rattle.bt_image.specs.Refusal.{overlap, symbols_refusal, limits_refusal}
 use Rattle.bt_image.specs.Section.{section_at}
 use Rattle.bt_image.specs.Symbol.{symbol_count, functions}
 use Rattle.sparc_decode.specs.Instr.{instruction_of}
@@ -29,7 +30,9 @@ use Rattle.step_covers.proofs.DoLemmas.{steps_do}
 use Rattle.step_covers.specs.Covered.{IsCoveredSome}
 use Rattle.step_covers.specs.Does.{IsHere}
 use Rattle.step_covers.specs.Says.{IsTaken}
-use Rattle.step_covers.specs.Worked.{image, costs, thresholds, place_at, annulling_way, branch_way, load_step, compare_step, delay_step, difference_step, rest_step, goes_on_by, reached, IsWorkedStep, WorkedRunIsCovered, at_entry, at_load, at_compare, at_annulling, at_branch, at_delay, at_difference, at_rest, at_last_but_one, at_last}
+use Rattle.step_covers.specs.Worked.{image, costs, thresholds, place_at, annulling_way, branch_way, load_step, compare_step, delay_step}
+use Rattle.step_covers.specs.Worked.{difference_step, rest_step, goes_on_by, reached, IsWorkedStep, WorkedRunIsCovered, at_entry, at_load, at_compare}
+use Rattle.step_covers.specs.Worked.{at_annulling, at_branch, at_delay, at_difference, at_rest, at_last_but_one, at_last}
 use Rattle.transfer_acts.specs.Act.{act_at}
 use Rattle.transfer_acts.specs.Step.{nothing, sets}
 use Rattle.transfer_rules.specs.declared.act.Act.TheVariants.{Acts}
@@ -44,11 +47,13 @@ use Rattle.transfer_values.specs.Test.{tested}
 use Rattle.value_lattice.specs.Thresholds.{IsThresholds}
 
 accepted : first_refusal image ≡ None
-unfolding first_refusal checked_refusal header_refusal headers_refusal sections_refusal section_fault overlap_refusal overlap symbols_refusal limits_refusal word_field half_field section_at symbol_count functions
+unfolding first_refusal checked_refusal header_refusal headers_refusal sections_refusal section_fault overlap_refusal overlap symbols_refusal
+    limits_refusal word_field half_field section_at symbol_count functions
 accepted = refl
 
 bytes : AreBytes image
-bytes = (Decides-by_and (λ b. nat_lt b 256) (λ b. b < 256) (list_all (λ b. nat_lt b 256)) (λ b. (ltb-true b 256, lt-ltb b 256)) refl (λ x xs. refl) image).0 refl
+bytes = (Decides-by_and (λ b. nat_lt b 256) (λ b. b < 256) (list_all (λ b. nat_lt b 256)) (λ b. (ltb-true b 256, lt-ltb b 256)) refl
+    (λ x xs. refl) image).0 refl
 
 abbrev free : Free
 free = record { first = 0; second = 0; flags = 0; taken = false }
@@ -123,7 +128,8 @@ here_at m pc npc machine window at =
     }
 
 -- a step of the run, of a machine in window 0
-worked : (pc npc : ℕ) (step : Step) (way : Way) (m next : Machine) → IsMachine m → m.cwp ≡ 0 → m.pc ≡ pc → act_at image [] false (place_at pc npc) ≡ Acts step way
+worked : (pc npc : ℕ) (step : Step) (way : Way) (m next : Machine) → IsMachine m → m.cwp ≡ 0 → m.pc ≡ pc
+    → act_at image [] false (place_at pc npc) ≡ Acts step way
     → StepsTo image costs m next → IsWorkedStep (place_at pc npc) step way m next
 worked pc npc step way m next machine window at act steps =
     record {
@@ -144,39 +150,46 @@ two = worked 4100 4104 load_step Onward at_load at_compare (keeps_machines image
 three : IsWorkedStep (place_at 4104 4108) compare_step Onward at_compare at_annulling
 unfolding holder held word_field half_field section_at instruction_of
 three =
-    worked 4104 4108 compare_step Onward at_compare at_annulling (keeps_machines image costs at_load at_compare bytes two.here.machine step_two) refl refl refl step_three
+    worked 4104 4108 compare_step Onward at_compare at_annulling
+    (keeps_machines image costs at_load at_compare bytes two.here.machine step_two) refl refl refl step_three
 
 four : IsWorkedStep (place_at 4108 4112) (nothing 0) annulling_way at_annulling at_branch
 unfolding holder held word_field half_field section_at instruction_of
 four =
-    worked 4108 4112 (nothing 0) annulling_way at_annulling at_branch (keeps_machines image costs at_compare at_annulling bytes three.here.machine step_three) refl refl
+    worked 4108 4112 (nothing 0) annulling_way at_annulling at_branch
+    (keeps_machines image costs at_compare at_annulling bytes three.here.machine step_three) refl refl
     refl step_four
 
 five : IsWorkedStep (place_at 4116 4120) (nothing 0) branch_way at_branch at_delay
 unfolding holder held word_field half_field section_at instruction_of
 five =
-    worked 4116 4120 (nothing 0) branch_way at_branch at_delay (keeps_machines image costs at_annulling at_branch bytes four.here.machine step_four) refl refl refl step_five
+    worked 4116 4120 (nothing 0) branch_way at_branch at_delay
+    (keeps_machines image costs at_annulling at_branch bytes four.here.machine step_four) refl refl refl step_five
 
 six : IsWorkedStep (place_at 4120 4136) delay_step Onward at_delay at_difference
 unfolding holder held word_field half_field section_at instruction_of
 six =
-    worked 4120 4136 delay_step Onward at_delay at_difference (keeps_machines image costs at_branch at_delay bytes five.here.machine step_five) refl refl refl step_six
+    worked 4120 4136 delay_step Onward at_delay at_difference
+    (keeps_machines image costs at_branch at_delay bytes five.here.machine step_five) refl refl refl step_six
 
 seven : IsWorkedStep (place_at 4136 4140) difference_step Onward at_difference at_rest
 unfolding holder held word_field half_field section_at instruction_of
 seven =
-    worked 4136 4140 difference_step Onward at_difference at_rest (keeps_machines image costs at_delay at_difference bytes six.here.machine step_six) refl refl refl step_seven
+    worked 4136 4140 difference_step Onward at_difference at_rest
+    (keeps_machines image costs at_delay at_difference bytes six.here.machine step_six) refl refl refl step_seven
 
 eight : IsWorkedStep (place_at 4140 4144) rest_step Onward at_rest at_last_but_one
 unfolding holder held word_field half_field section_at instruction_of
 eight =
-    worked 4140 4144 rest_step Onward at_rest at_last_but_one (keeps_machines image costs at_difference at_rest bytes seven.here.machine step_seven) refl refl refl
+    worked 4140 4144 rest_step Onward at_rest at_last_but_one
+    (keeps_machines image costs at_difference at_rest bytes seven.here.machine step_seven) refl refl refl
     step_eight
 
 nine : IsWorkedStep (place_at 4144 4148) rest_step Onward at_last_but_one at_last
 unfolding holder held word_field half_field section_at instruction_of
 nine =
-    worked 4144 4148 rest_step Onward at_last_but_one at_last (keeps_machines image costs at_rest at_last_but_one bytes eight.here.machine step_eight) refl refl refl
+    worked 4144 4148 rest_step Onward at_last_but_one at_last
+    (keeps_machines image costs at_rest at_last_but_one bytes eight.here.machine step_eight) refl refl refl
     step_nine
 
 -- the thresholds are some
@@ -233,6 +246,8 @@ covered =
     (covered_on _ load_step Onward Always at_load at_compare _ two refl tt
     (covered_on _ (sets 0 8 (Exactly 4096) None) Onward Always at_entry at_load (Some entry_state) one refl tt entered))))))))
 
+-- ten machines over an accepted file, with a load of a constant, a comparison, an annulling branch that isn't taken and a
+-- branch that is: each step does what the act of its place says, and the state to which the steps lead covers the last
 pub worked_run : WorkedRunIsCovered
 worked_run =
     record {

@@ -1,5 +1,6 @@
 -- Which places of the registers a step writes.
-use Rattle.std.proofs.Common.{◌≡◌, ◌≢◌, ℕ, suc, ◌+◌, ◌%◌, ◌<◌, ◌⊎◌, inl, inr, Bool, true, false, List, [], ◌∷◌, Contains, refl, sym, ap, subst, ◌∙◌, arith, eq-eqb}
+use Rattle.std.proofs.Common.{◌≡◌, ◌≢◌, ℕ, suc, ◌+◌, ◌%◌, ◌<◌, ◌⊎◌, inl, inr, Bool, true, false, List, [], ◌∷◌, Contains, refl, sym, ap, subst, ◌∙◌}
+use Rattle.std.proofs.Common.{arith, eq-eqb}
 use Rattle.std.specs.Prelude.{◌==◌, if◌then◌else◌}
 use Rattle.std.proofs.lemmas.Bool.{false≢true}
 use Rattle.std.proofs.lemmas.Bool.Decides.{eqb_tells}
@@ -8,7 +9,9 @@ use Rattle.sparc_decode.proofs.FieldRanges.{all_in_range}
 use Rattle.sparc_decode.specs.Instr.{InRange}
 use Rattle.sparc_decode.specs.Register.{registers_written}
 use Rattle.sparc_decode.specs.declared.instruction.Instr.{Instr}
-use Rattle.sparc_decode.specs.declared.instruction.Instr.TheVariants.{Call, Unimp, Sethi, Branch, FloatBranch, Alu, Tagged, MulStep, Shift, ReadY, WriteY, FloatOp, FloatCmp, Jmpl, Flush, Save, Restore, Ticc, Load, Store, Atomic, FloatMem, Unmodelled as UnmodelledWord, Unknown, Multiply, Divide}
+use Rattle.sparc_decode.specs.declared.instruction.Instr.TheVariants.{Call, Unimp, Sethi, Branch, FloatBranch, Alu, Tagged, MulStep, Shift, ReadY}
+use Rattle.sparc_decode.specs.declared.instruction.Instr.TheVariants.{WriteY, FloatOp, FloatCmp, Jmpl, Flush, Save, Restore, Ticc, Load, Store}
+use Rattle.sparc_decode.specs.declared.instruction.Instr.TheVariants.{Atomic, FloatMem, Unmodelled as UnmodelledWord, Unknown, Multiply, Divide}
 use Rattle.sparc_decode.specs.declared.instruction.LoadKind.{LoadKind}
 use Rattle.sparc_decode.specs.declared.instruction.LoadKind.TheVariants.{Ld, Ldub, Lduh, Ldd, Ldsb, Ldsh}
 use Rattle.sparc_decode.specs.declared.instruction.Second.{Second}
@@ -97,18 +100,21 @@ record IsOneOf (next : Machine) (place : ℕ) (rs : List ℕ) : Type 0 where
 one_or_none : (next : Machine) (place : ℕ) (rs : List ℕ) → AreElsewhere next place rs ⊎ IsOneOf next place rs
 one_or_none next place [] = inl tt
 one_or_none next place (r ∷ rest) = first (eqb_tells r 0) (eqb_tells (physical_of next.cwp r) place) (one_or_none next place rest) where
-  behind : IsElsewhere next place r → AreElsewhere next place rest ⊎ IsOneOf next place rest → AreElsewhere next place (r ∷ rest) ⊎ IsOneOf next place (r ∷ rest)
+  behind : IsElsewhere next place r → AreElsewhere next place rest ⊎ IsOneOf next place rest
+      → AreElsewhere next place (r ∷ rest) ⊎ IsOneOf next place (r ∷ rest)
   behind here (inl none) = inl (here, none)
   behind here (inr one) =
       inr (record { register = one.register; some = one.some; among = (suc one.among.0, omega (arith, one.among.1), one.among.2); is = one.is })
 
   first : ((r == 0) ≡ true × r ≡ 0) ⊎ ((r == 0) ≡ false × r ≢ 0)
-      → ((physical_of next.cwp r == place) ≡ true × physical_of next.cwp r ≡ place) ⊎ ((physical_of next.cwp r == place) ≡ false × physical_of next.cwp r ≢ place)
+      → ((physical_of next.cwp r == place) ≡ true × physical_of next.cwp r ≡ place)
+      ⊎ ((physical_of next.cwp r == place) ≡ false × physical_of next.cwp r ≢ place)
       → AreElsewhere next place rest ⊎ IsOneOf next place rest → AreElsewhere next place (r ∷ rest) ⊎ IsOneOf next place (r ∷ rest)
   first (inl none) where_it_is more = behind (λ some. absurd (some none.1)) more
   first (inr some) (inl here) more = inr (record { register = r; some = some.1; among = (0, omega arith, refl); is = here.1 })
   first (inr some) (inr other) more = behind (λ any. other.1) more
 
+-- a step writes no place of the registers but those of the registers that its instruction writes, in the window behind it
 pub places_written : PlacesAreWritten
 places_written image cycles m next i place step is = elim (one_or_none next place (registers_written i)) [
   | inl none ↦ inl (writes_only image cycles m next i step is place none)

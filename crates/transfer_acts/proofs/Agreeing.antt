@@ -7,7 +7,9 @@ use Rattle.assert_bind.specs.declared.body.BoundAssertion.{BoundAssertion}
 use Rattle.bt_image.specs.Image.{word, is_code}
 use Rattle.sparc_decode.specs.Instr.{instruction_of}
 use Rattle.sparc_decode.specs.declared.instruction.Instr.{Instr}
-use Rattle.sparc_decode.specs.declared.instruction.Instr.TheVariants.{Call, Unimp, Sethi, Branch, FloatBranch, Alu, Tagged, MulStep, Shift, ReadY, WriteY, FloatOp, FloatCmp, Jmpl, Flush, Save, Restore, Ticc, Load, Store, Atomic, FloatMem, Unmodelled, Unknown, Multiply, Divide}
+use Rattle.sparc_decode.specs.declared.instruction.Instr.TheVariants.{Call, Unimp, Sethi, Branch, FloatBranch, Alu, Tagged, MulStep, Shift, ReadY}
+use Rattle.sparc_decode.specs.declared.instruction.Instr.TheVariants.{WriteY, FloatOp, FloatCmp, Jmpl, Flush, Save, Restore, Ticc, Load, Store}
+use Rattle.sparc_decode.specs.declared.instruction.Instr.TheVariants.{Atomic, FloatMem, Unmodelled, Unknown, Multiply, Divide}
 use Rattle.sparc_decode.specs.declared.instruction.Second.{Second}
 use Rattle.sparc_decode.specs.declared.instruction.Second.TheVariants.{Reg, Imm}
 use Rattle.sparc_machine.specs.Effect.{address_in, is_odd_double_load, is_odd_double_store}
@@ -116,6 +118,7 @@ read_where : (b : Bool) (w : Option ℕ) (i : Instr) → option_map instruction_
 read_where true w i same = same
 read_where false w i same = cc
 
+-- an instruction of code is the one that can be read there
 pub code_is_read : (image : List ℕ) (a : ℕ) (i : Instr) → code_instruction image a ≡ Some i → instruction_at image a ≡ Some i
 code_is_read image a i same = read_where (is_code image a) (word image a) i same
 
@@ -133,8 +136,11 @@ at_agrees : (image : List ℕ) (binding : List BoundAssertion) (eight : Bool) (p
     (transfer_from m (instruction_at image p.pc) (instruction_at image ((p.pc + 4) % 2 ^ 32)))
 at_agrees image binding eight p m same =
     either (never binding p.pc) _ _ m.pc _ tt
-    (there_agrees binding eight p (instruction_at image (behind p.pc 4)) (code_instruction image p.pc) (instruction_at image p.pc) m same (code_is_read image p.pc))
+    (there_agrees binding eight p (instruction_at image (behind p.pc 4)) (code_instruction image p.pc) (instruction_at image p.pc) m same
+    (code_is_read image p.pc))
 
+-- what a place does agrees with how the frames of a run read the words: its step is a call, a return, or stays in its
+-- frame, as its way says
 pub acts_agree_with_frames : ActsAgreeWithFrames
 acts_agree_with_frames image binding eight p step way m is same =
     let there : ActAgrees (act_at image binding eight p) m.pc (transfer_of image m) =

@@ -4,7 +4,9 @@ use Rattle.abs_state.specs.declared.key.Place.{Place}
 use Rattle.assert_bind.specs.Binding.{never}
 use Rattle.assert_bind.specs.declared.body.BoundAssertion.{BoundAssertion}
 use Rattle.sparc_decode.specs.declared.instruction.Instr.{Instr}
-use Rattle.sparc_decode.specs.declared.instruction.Instr.TheVariants.{Call, Unimp, Sethi, Branch, FloatBranch, Alu, Tagged, MulStep, Shift, ReadY, WriteY, FloatOp, FloatCmp, Jmpl, Flush, Save, Restore, Ticc, Load, Store, Atomic, FloatMem, Unmodelled, Unknown, Multiply, Divide}
+use Rattle.sparc_decode.specs.declared.instruction.Instr.TheVariants.{Call, Unimp, Sethi, Branch, FloatBranch, Alu, Tagged, MulStep, Shift, ReadY}
+use Rattle.sparc_decode.specs.declared.instruction.Instr.TheVariants.{WriteY, FloatOp, FloatCmp, Jmpl, Flush, Save, Restore, Ticc, Load, Store}
+use Rattle.sparc_decode.specs.declared.instruction.Instr.TheVariants.{Atomic, FloatMem, Unmodelled, Unknown, Multiply, Divide}
 use Rattle.sparc_decode.specs.declared.instruction.LoadKind.{LoadKind}
 use Rattle.sparc_decode.specs.declared.instruction.LoadKind.TheVariants.{Ld, Ldub, Lduh, Ldd, Ldsb, Ldsh}
 use Rattle.sparc_decode.specs.declared.instruction.Second.{Second}
@@ -89,6 +91,7 @@ place_shallow image binding eight p h =
 depth_of : (act : Act) (step : Step) (way : Way) → act ≡ Acts step way → IsShallowAct act → step.depth < 2
 depth_of act step way same h = subst IsShallowAct same h
 
+-- the steps of places at depths below 2 lead to such depths
 pub programs_are_lawful : ProgramsAreLawful
 programs_are_lawful image binding eight widest = record {
   depth = λ p step way shallow same.

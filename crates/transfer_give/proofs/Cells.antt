@@ -13,5 +13,6 @@ ret_is_below = refl
 past : (s : State) (c : ℕ) → length s.cells ≡ 48 → 48 ≤ c → cell_at s c ≡ top
 past s c size above = grind (arith, common_steps)
 
+-- past the cells any word may stand
 pub may_past : (s : State) (c : ℕ) → length s.cells ≡ 48 → 48 ≤ c → leb 48 c ≡ is_at_most Ret (cell_at s c)
 may_past s c size above = rw (past s c size above) (rw ret_is_below (grind arith))

@@ -33,6 +33,7 @@ into_gives : (m : Program) (p : Place) (t depth : ℕ) (callee : Option Effects)
 unfolding handed_on entered_from
 into_gives m p t depth callee s = refl
 
+-- what a delay instruction of a call gives, in three lists
 pub call_is : (m : Program) (p : Place) (next : Next) (t depth : ℕ) (callee : Option Effects) (s : State) → next ≡ Into t
     → call_gives m p t depth callee s ≡ beside_to next m p depth callee s ++ (here_to next p depth callee s ++ entered_to next m depth s)
 call_is m p next t depth callee s same =

@@ -26,8 +26,10 @@ cells_over t s over =
 pub values_over : (t : List ℕ) (list : List Value) → is_fact_over t (fact.Args list) ≡ true → All (IsOver t) list
 values_over t list over = (over_all t list).0 (both (eqb (length list) 13) (list_all (is_over t) list) over).1
 
+-- arguments over thresholds are values
 pub values_are : (t : List ℕ) (list : List Value) → is_fact_over t (fact.Args list) ≡ true → All IsValue list
 values_are t list over = values_of t list (values_over t list over)
 
+-- arguments over thresholds are thirteen
 pub thirteen : (t : List ℕ) (list : List Value) → is_fact_over t (fact.Args list) ≡ true → length list ≡ 13
 thirteen t list over = eqb-true (length list) 13 (both (eqb (length list) 13) (list_all (is_over t) list) over).0

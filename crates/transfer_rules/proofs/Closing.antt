@@ -22,10 +22,13 @@ use Rattle.abs_state.specs.declared.key.Next.{Next}
 use Rattle.abs_state.specs.declared.key.Next.TheVariants.{At, Into, Back}
 use Rattle.abs_state.specs.declared.key.Place.{Place}
 use Rattle.flow_system.specs.State.{ContainsPiece, IsClosed}
-use Rattle.transfer_rules.specs.Closed.{ClosedCalls, ClosedHasGaps, ClosedHasThree, ClosedLeadsOn, ClosedSays, ClosedStarts, HasCall, HasState, IsAllowed, IsTaken, LeadsTo, Says}
+use Rattle.transfer_rules.specs.Closed.{ClosedCalls, ClosedHasGaps, ClosedHasThree, ClosedLeadsOn, ClosedSays, ClosedStarts, HasCall, HasState}
+use Rattle.transfer_rules.specs.Closed.{IsAllowed, IsTaken, LeadsTo, Says}
 use Rattle.transfer_rules.specs.Fact.{Piece, effects_in, is_at_most, state_in}
 use Rattle.transfer_rules.specs.Family.{Family, Program}
-use Rattle.transfer_rules.specs.Give.{Facts, act_beside, act_entered, act_gives, act_here, arguments, behind, beside, beside_to, called, called_effects, called_to, callee_of, delayed, effects, entered, entered_to, entered_with, entry_of, exits, gap, given_if, goes, here, here_to, is_behind, is_known, jumped_to, mask_of, node_gives, onward, pieces_of, place}
+use Rattle.transfer_rules.specs.Give.{Facts, act_beside, act_entered, act_gives, act_here, arguments, behind, beside, beside_to, called}
+use Rattle.transfer_rules.specs.Give.{called_effects, called_to, callee_of, delayed, effects, entered, entered_to, entered_with, entry_of, exits, gap}
+use Rattle.transfer_rules.specs.Give.{given_if, goes, here, here_to, is_behind, is_known, jumped_to, mask_of, node_gives, onward, pieces_of, place}
 use Rattle.transfer_rules.specs.Lawful.{rules_of}
 use Rattle.transfer_rules.specs.declared.act.Act.{Act}
 use Rattle.transfer_rules.specs.declared.act.Act.TheVariants.{Acts, Open}
@@ -114,7 +117,8 @@ module _ (t : List ℕ) (f : Family) (m : Program) (x : Facts) (closed : IsClose
         act piece
         (Contains-append_left (act_beside f m p (Acts step way) (callee_of p.next x) before)
         (act_here f p (Acts step way) (callee_of p.next x) before ++ act_entered f m p (Acts step way) before) piece
-        (Contains-append_right (effects p.sub false false (mask_of step) ∷ []) (pieces_of (f.step step before) (beside f m p step way (callee_of p.next x) before)) piece
+        (Contains-append_right (effects p.sub false false (mask_of step) ∷ [])
+        (pieces_of (f.step step before) (beside f m p step way (callee_of p.next x) before)) piece
         (subst (λ (o : Option State). Contains (pieces_of o (beside f m p step way (callee_of p.next x) before)) piece) (sym is.stepped) has)))
 
     has_here : (piece : Piece) → Contains (here f p step way (callee_of p.next x) before after) piece → Has piece
@@ -181,7 +185,8 @@ module _ (t : List ℕ) (f : Family) (m : Program) (x : Facts) (closed : IsClose
         let s : State = without after (after_call there.written step.depth) in
         leads p (onward p (behind p.pc 4) step.depth) s
         (λ piece has. at_called target there same found piece
-        (Contains-append_left (given_if there.returns (goes p (onward p (behind p.pc 4) step.depth) s)) (given_if there.skips (goes p (onward p (behind p.pc 8) step.depth) s)) piece
+        (Contains-append_left (given_if there.returns (goes p (onward p (behind p.pc 4) step.depth) s))
+        (given_if there.skips (goes p (onward p (behind p.pc 8) step.depth) s)) piece
         (subst (λ (b : Bool). Contains (given_if b (goes p (onward p (behind p.pc 4) step.depth) s)) piece) (sym returns) has)))
 
     skips_word : (target : ℕ) (there : Effects) → p.next ≡ Into target → x (key.Summary target) ≡ Some (fact.Sum there) → there.skips ≡ true
@@ -190,7 +195,8 @@ module _ (t : List ℕ) (f : Family) (m : Program) (x : Facts) (closed : IsClose
         let s : State = without after (after_call there.written step.depth) in
         leads p (onward p (behind p.pc 8) step.depth) s
         (λ piece has. at_called target there same found piece
-        (Contains-append_right (given_if there.returns (goes p (onward p (behind p.pc 4) step.depth) s)) (given_if there.skips (goes p (onward p (behind p.pc 8) step.depth) s)) piece
+        (Contains-append_right (given_if there.returns (goes p (onward p (behind p.pc 4) step.depth) s))
+        (given_if there.skips (goes p (onward p (behind p.pc 8) step.depth) s)) piece
         (subst (λ (b : Bool). Contains (given_if b (goes p (onward p (behind p.pc 8) step.depth) s)) piece) (sym skips) has)))
 
     calls_say : (target : ℕ) (there : Effects) → p.next ≡ Into target → x (key.Summary target) ≡ Some (fact.Sum there)
@@ -199,8 +205,10 @@ module _ (t : List ℕ) (f : Family) (m : Program) (x : Facts) (closed : IsClose
         let e : Effects = record { returns = false; skips = false; written = after_call there.written step.depth } in
         says p.sub e
         (at_beside (Into target) same (key.Summary p.sub, fact.Sum e)
-        (Contains-append_right ((key.Call p target, fact.Args (arguments step.depth after)) ∷ []) (pieces_of (callee_of p.next x) (called_effects p step.depth)) (key.Summary p.sub, fact.Sum e)
-        (subst (λ (o : Option Effects). Contains (pieces_of o (called_effects p step.depth)) (key.Summary p.sub, fact.Sum e)) (sym (callee_is target there same found)) (0, omega arith, refl))))
+        (Contains-append_right ((key.Call p target, fact.Args (arguments step.depth after)) ∷ [])
+        (pieces_of (callee_of p.next x) (called_effects p step.depth)) (key.Summary p.sub, fact.Sum e)
+        (subst (λ (o : Option Effects). Contains (pieces_of o (called_effects p step.depth)) (key.Summary p.sub, fact.Sum e))
+        (sym (callee_is target there same found)) (0, omega arith, refl))))
 
     goes_back : p.next ≡ Back → step.depth ≡ 0 → Says x p.sub (record { returns = not (m.skips p); skips = m.skips p; written = 0 })
     goes_back same flat =
@@ -249,6 +257,8 @@ module _ (t : List ℕ) (f : Family) (m : Program) (x : Facts) (closed : IsClose
   gap_if : (p : Place) (kind : GapKind) (b : Bool) → b ≡ false → Contains (given_if (not b) (gap p kind ∷ [])) (gap p kind)
   gap_if p kind b none = subst (λ (c : Bool). Contains (given_if (not c) (gap p kind ∷ [])) (gap p kind)) (sym none) (0, omega arith, refl)
 
+-- a closed state has what is said beside an instruction, the program points of the same subprogram behind it, and the
+-- entries of what it calls
 pub closed_has_three : ClosedHasThree
 closed_has_three = record {
   beside = λ t f m x p step way before after closed is k v has. has_beside t f m x closed p step way before after is (k, v) has;
@@ -256,6 +266,8 @@ closed_has_three = record {
   entered = λ t f m x p step way before after closed is k v has. has_entered t f m x closed p step way before after is (k, v) has;
 }
 
+-- in a closed state an instruction leads on: to where control was to go, in the directions of a branch that are open, and
+-- to the delay instruction of a call, a jump or a return
 pub closed_leads_on : ClosedLeadsOn
 closed_leads_on = record {
   onward = λ t f m x p n step before after closed is same. goes_onward t f m x closed p step before after is n same;
@@ -282,22 +294,28 @@ closed_leads_on = record {
         (λ piece has. has_here t f m x closed p step (Forks other (Some exit)) before after is piece
         (Contains-append_right (exits f p other after) (exits f p (Some exit) after) piece (takes_exit t f m x closed p exit after s left piece has)))
 
+-- a closed state has a gap where an instruction isn't followed, where the targets aren't all known, where a return may go
+-- elsewhere, and where one is made in the window behind a SAVE
 pub closed_has_gaps : ClosedHasGaps
 closed_has_gaps = record {
   unfollowed = λ t f m x p kind before closed is acts.
       marked t f m x closed (key.Gap p.sub p.pc kind) (has_allowed t f m x closed p before (Open kind) is acts (gap p kind) (0, omega arith, refl));
   calls = λ t f m x p step aim before after closed is unknown.
       marked t f m x closed (key.Gap p.sub p.pc why.Call)
-      (has_beside t f m x closed p step (CallsTo aim) before after is (gap p why.Call) (gap_if t f m x closed p why.Call (is_known p (f.resolve p.pc aim before)) unknown));
+      (has_beside t f m x closed p step (CallsTo aim) before after is (gap p why.Call)
+      (gap_if t f m x closed p why.Call (is_known p (f.resolve p.pc aim before)) unknown));
   jumps = λ t f m x p step aim before after closed is unknown.
       marked t f m x closed (key.Gap p.sub p.pc why.Jump)
-      (has_beside t f m x closed p step (JumpsTo aim) before after is (gap p why.Jump) (gap_if t f m x closed p why.Jump (f.resolve p.pc aim before).whole unknown));
+      (has_beside t f m x closed p step (JumpsTo aim) before after is (gap p why.Jump)
+      (gap_if t f m x closed p why.Jump (f.resolve p.pc aim before).whole unknown));
   returns = λ t f m x p c step before after closed is other.
       marked t f m x closed (key.Gap p.sub p.pc why.Jump)
       (has_beside t f m x closed p step (ReturnsBy c) before after is (gap p why.Jump) (gap_if t f m x closed p why.Jump (is_ret (cell_at before c)) other));
   deep = λ t f m x p step before after closed is same deep. too_deep t f m x closed p step before after is same deep;
 }
 
+-- in a closed state the delay instruction of a call makes the call, enters what is called unless that is a stub, and
+-- comes back from it where it returns or skips a word
 pub closed_calls : ClosedCalls
 closed_calls = record {
   call = λ t f m x p target step before after closed is same. makes_call t f m x closed p step before after is target same;
@@ -307,6 +325,7 @@ closed_calls = record {
   skips = λ t f m x p target step before after there closed is same found skips. skips_word t f m x closed p step before after is target there same found skips;
 }
 
+-- a closed state says of each subprogram what its instructions write, what its calls may write, and how it comes back
 pub closed_says : ClosedSays
 closed_says = record {
   writes = λ t f m x p step way before closed is acts.
@@ -316,9 +335,11 @@ closed_says = record {
   back = λ t f m x p step before after closed is same flat. goes_back t f m x closed p step before after is same flat;
 }
 
+-- a closed state has the entries of the roots, and what the stubs may do
 pub closed_starts : ClosedStarts
 closed_starts = record { roots = roots; stubs = stubs } where
-  roots : (t : List ℕ) (f : Family) (m : Program) (x : Facts) (root : ℕ) → IsClosed (rules_of t f m) x → Contains m.roots root → HasState x (entry_of root) entry_state
+  roots : (t : List ℕ) (f : Family) (m : Program) (x : Facts) (root : ℕ) → IsClosed (rules_of t f m) x → Contains m.roots root
+      → HasState x (entry_of root) entry_state
   roots t f m x root closed has =
       has_state t f m x closed (entry_of root) entry_state
       (closed.starts (key.Node (entry_of root)) (fact.State entry_state)

@@ -34,12 +34,14 @@ pub record IsFitting (t : List ℕ) (k : Key) (v : Fact) : Type 0 where
   pub depths : names_depths k ≡ true
   pub over : is_fact_over t v ≡ true
 
+-- a fact that fits a key is of its kind, at depths below 2, and over the thresholds
 pub fitting : (t : List ℕ) (k : Key) (v : Fact) → fits t k v ≡ true → IsFitting t k v
 fitting t k v is =
     let first = and_parts (is_kind v (kind_at k)) (names_depths k && is_fact_over t v) is in
     let rest = and_parts (names_depths k) (is_fact_over t v) first.1 in
     record { kind = first.0; depths = rest.0; over = rest.1 }
 
+-- such a fact fits the key
 pub from_fitting : (t : List ℕ) (k : Key) (v : Fact) → IsFitting t k v → fits t k v ≡ true
 from_fitting t k v is =
     and_from (is_kind v (kind_at k)) (names_depths k && is_fact_over t v) is.kind (and_from (names_depths k) (is_fact_over t v) is.depths is.over)

@@ -28,12 +28,16 @@ pub record AreArguments (t : List ℕ) (list : List Value) : Type 0 where
   pub size : length list ≡ 13
   pub over : list_all (is_over t) list ≡ true
 
+-- a fact of arguments over the thresholds is thirteen values over them
 pub arguments_in : (t : List ℕ) (list : List Value) → is_fact_over t (Args list) ≡ true → AreArguments t list
-arguments_in t list is = let parts = and_parts (length list == 13) (list_all (is_over t) list) is in record { size = eqb-true (length list) 13 parts.0; over = parts.1 }
+arguments_in t list is = let parts = and_parts (length list == 13)
+    (list_all (is_over t) list) is in record { size = eqb-true (length list) 13 parts.0; over = parts.1 }
 
+-- thirteen values over the thresholds are a fact over them
 pub from_arguments : (t : List ℕ) (list : List Value) → AreArguments t list → is_fact_over t (Args list) ≡ true
 from_arguments t list is = and_from (length list == 13) (list_all (is_over t) list) (eq-eqb (length list) 13 is.size) is.over
 
+-- a fact is at most itself
 pub same_fact : (t : List ℕ) (a : Fact) → is_fact_over t a ≡ true → is_at_most a a ≡ true
 same_fact t (State s) over = states_are_ordered.same t s over
 same_fact t (Args list) over = cells_same t list (arguments_in t list over).over
@@ -58,6 +62,7 @@ alike_onward Mark Mark Mark x y one two = refl
 alike_onward Mark Mark _ x y one two = absurd (false≢true y)
 alike_onward _ _ c x y one two = absurd (false≢true x)
 
+-- the order of facts goes on from one to the next
 pub facts_onward : (a b c : Fact) → is_at_most a b ≡ true → is_at_most b c ≡ true → is_at_most a c ≡ true
 facts_onward a b c one two = alike_onward a b c (up_alike a b one) (up_alike b c two) one two
 
@@ -68,6 +73,7 @@ alike_both (Sum a) (Sum b) x one two = ap Sum (summaries_are_ordered.both a b on
 alike_both Mark Mark x one two = refl
 alike_both _ _ x one two = absurd (false≢true x)
 
+-- facts that are at most each other are one
 pub facts_both : (a b : Fact) → is_at_most a b ≡ true → is_at_most b a ≡ true → a ≡ b
 facts_both a b one two = alike_both a b (up_alike a b one) one two
 
@@ -126,23 +132,29 @@ module _ (t : List ℕ) (is : IsThresholds t) where
   kind_up kind Mark Mark one x = one
   kind_up kind _ _ one x = absurd (false≢true x)
 
+  -- the join of facts fits where both do
   pub join_fits : (k : Key) (a b : Fact) → fits t k a ≡ true → fits t k b ≡ true → fits t k (joined t a b) ≡ true
   join_fits k a b one two =
       let left = fitting t k a one in
       let right = fitting t k b two in
       let same = fit_alike t k a b one two in
-      from_fitting t k (joined t a b) (record { kind = kind_up (kind_at k) a b left.kind same; depths = left.depths; over = over_up a b same left.over right.over })
+      from_fitting t k (joined t a b) (record
+      { kind = kind_up (kind_at k) a b left.kind same; depths = left.depths; over = over_up a b same left.over right.over })
 
+  -- the first fact is at most the join
   pub join_first : (k : Key) (a b : Fact) → fits t k a ≡ true → fits t k b ≡ true → is_at_most a (joined t a b) ≡ true
   join_first k a b one two = first_up a b (fit_alike t k a b one two) (fitting t k a one).over (fitting t k b two).over
 
+  -- the second fact is at most the join
   pub join_second : (k : Key) (a b : Fact) → fits t k a ≡ true → fits t k b ≡ true → is_at_most b (joined t a b) ≡ true
   join_second k a b one two = second_up a b (fit_alike t k a b one two) (fitting t k a one).over (fitting t k b two).over
 
+  -- the join of facts is at most what both are at most
   pub join_least : (k : Key) (a b c : Fact) → fits t k a ≡ true → fits t k b ≡ true → fits t k c ≡ true → is_at_most a c ≡ true → is_at_most b c ≡ true
       → is_at_most (joined t a b) c ≡ true
   join_least k a b c one two three up also =
-      least_up a b c (fit_alike t k a b one two) (fit_alike t k b c two three) (fitting t k a one).over (fitting t k b two).over (fitting t k c three).over up also
+      least_up a b c (fit_alike t k a b one two) (fit_alike t k b c two three) (fitting t k a one).over (fitting t k b two).over
+      (fitting t k c three).over up also
 
 -- the ranks of summaries
 bits_up : (a b : Bool) → implies a b ≡ true → (bit_of a < bit_of b) ⊎ (a ≡ b)
@@ -199,6 +211,7 @@ alike_rises t (Sum a) (Sum b) x one two up down =
 alike_rises t Mark Mark x one two up down = absurd (false≢true (sym down))
 alike_rises t _ _ x one two up down = absurd (false≢true x)
 
+-- the rank of a greater fact is greater
 pub facts_rise : (t : List ℕ) (k : Key) (a b : Fact) → fits t k a ≡ true → fits t k b ≡ true → is_at_most a b ≡ true → is_at_most b a ≡ false
     → rank t a < rank t b
 facts_rise t k a b one two up down = alike_rises t a b (up_alike a b up) (fitting t k a one).over (fitting t k b two).over up down
@@ -218,5 +231,6 @@ rank_most t (Sum e) over =
     omega arith
 rank_most t Mark over = omega arith
 
+-- no rank of a fact is above the greatest
 pub facts_limit : (t : List ℕ) (k : Key) (a : Fact) → fits t k a ≡ true → rank t a ≤ top_rank t
 facts_limit t k a is = rank_most t a (fitting t k a is).over

@@ -25,7 +25,10 @@ use Rattle.transfer_rules.proofs.FactKinds.{fitting}
 use Rattle.transfer_rules.proofs.HandedValues.{arguments_fit, entered_over}
 use Rattle.transfer_rules.specs.Fact.{Piece, effects_in, fits, is_fact_over, is_shallow, state_in}
 use Rattle.transfer_rules.specs.Family.{Family, Program}
-use Rattle.transfer_rules.specs.Give.{Facts, act_beside, act_entered, act_gives, act_here, arguments, behind, beside, beside_to, called, called_effects, called_to, callee_of, delayed, effects, entered, entered_to, entry_of, exits, gap, given_if, gives, goes, here, here_to, is_behind, is_known, is_written, jumped_to, mask_of, mask_of_write, node_gives, onward, pieces_of, place, starts}
+use Rattle.transfer_rules.specs.Give.{Facts, act_beside, act_entered, act_gives, act_here, arguments, behind, beside, beside_to, called}
+use Rattle.transfer_rules.specs.Give.{called_effects, called_to, callee_of, delayed, effects, entered, entered_to, entry_of, exits, gap, given_if}
+use Rattle.transfer_rules.specs.Give.{gives, goes, here, here_to, is_behind, is_known, is_written, jumped_to, mask_of, mask_of_write, node_gives}
+use Rattle.transfer_rules.specs.Give.{onward, pieces_of, place, starts}
 use Rattle.transfer_rules.specs.Lawful.{IsLawfulFamily, IsLawfulProgram, is_over_or_none}
 use Rattle.transfer_rules.specs.declared.act.Act.{Act}
 use Rattle.transfer_rules.specs.declared.act.Act.TheVariants.{Dead, Open, Acts}
@@ -116,11 +119,14 @@ module _ (t : List ℕ) where
         both_fit (given_if e.returns (goes p (onward p (behind p.pc 4) depth) (without s (after_call e.written depth))))
         (given_if e.skips (goes p (onward p (behind p.pc 8) depth) (without s (after_call e.written depth))))
         (given_fit e.returns (goes p (onward p (behind p.pc 4) depth) (without s (after_call e.written depth)))
-        (step_fits p (onward p (behind p.pc 4) depth) (without s (after_call e.written depth)) from to (writes_stand.forgotten t s (after_call e.written depth) ok over)))
+        (step_fits p (onward p (behind p.pc 4) depth) (without s (after_call e.written depth)) from to
+        (writes_stand.forgotten t s (after_call e.written depth) ok over)))
         (given_fit e.skips (goes p (onward p (behind p.pc 8) depth) (without s (after_call e.written depth)))
-        (step_fits p (onward p (behind p.pc 8) depth) (without s (after_call e.written depth)) from to (writes_stand.forgotten t s (after_call e.written depth) ok over)))
+        (step_fits p (onward p (behind p.pc 8) depth) (without s (after_call e.written depth)) from to
+        (writes_stand.forgotten t s (after_call e.written depth) ok over)))
 
-    here_to_fits : (next : Next) (p : Place) (depth : ℕ) (c : Option Effects) (s : State) → is_shallow p ≡ true → nat_lt depth 2 ≡ true → effects_or_none c ≡ true
+    here_to_fits : (next : Next) (p : Place) (depth : ℕ) (c : Option Effects) (s : State) → is_shallow p ≡ true → nat_lt depth 2 ≡ true
+        → effects_or_none c ≡ true
         → is_state_over t s ≡ true → AreFit (here_to next p depth c s)
     here_to_fits (At n) p depth c s from to is over = step_fits p (onward p n depth) s from to over
     here_to_fits (Into q) p depth c s from to is over = there_fit c (λ there. called p depth there s) is (λ e e_is. called_fit p depth e s from to over)
@@ -161,7 +167,8 @@ module _ (t : List ℕ) where
       here_fits : (p : Place) (step : Step) (way : Way) (c : Option Effects) (before s : State) → is_shallow p ≡ true → nat_lt step.depth 2 ≡ true
           → effects_or_none c ≡ true → is_state_over t s ≡ true → AreFit (here f p step way c before s)
       here_fits p step Onward c before s from to is over = here_to_fits p.next p step.depth c s from to is over
-      here_fits p step (Forks one two) c before s from to is over = both_fit (exits f p one s) (exits f p two s) (exits_fit p one s from over) (exits_fit p two s from over)
+      here_fits p step (Forks one two) c before s from to is over =
+          both_fit (exits f p one s) (exits f p two s) (exits_fit p one s from over) (exits_fit p two s from over)
       here_fits p step (CallsTo aim) c before s from to is over =
           each_fit (called_to p s) (f.resolve p.pc aim before).list
           (λ q. given_fit (not (is_behind p q)) (goes p (delayed p (Into q)) s) (step_fits p (delayed p (Into q)) s from from over))
@@ -179,7 +186,8 @@ module _ (t : List ℕ) where
       beside_fits p step (JumpsTo aim) c before s from is over = given_fit (not (f.resolve p.pc aim before).whole) (gap p why.Jump ∷ []) (gap_fits p why.Jump)
       beside_fits p step (ReturnsBy x) c before s from is over = given_fit (not (is_ret (cell_at before x))) (gap p why.Jump ∷ []) (gap_fits p why.Jump)
 
-      act_fits : (p : Place) (act : Act) (c : Option Effects) (s : State) → ((step : Step) (way : Way) → act ≡ Acts step way → step.depth < 2) → is_shallow p ≡ true
+      act_fits : (p : Place) (act : Act) (c : Option Effects) (s : State) → ((step : Step) (way : Way) → act ≡ Acts step way → step.depth < 2)
+          → is_shallow p ≡ true
           → effects_or_none c ≡ true → is_state_over t s ≡ true → AreFit (act_gives f m p act c s)
       act_fits p Dead c s deep from is over = none_fit
       act_fits p (Open kind) c s deep from is over = gap_fits p kind
@@ -193,7 +201,8 @@ module _ (t : List ℕ) where
           (states_fit (f.step step s) (here f p step way c s) (family.step step s over) (λ u up. here_fits p step way c s u from to is up))
           (states_fit (f.step step s) (entered m p step way) (family.step step s over) (λ u up. entered_fits p step way u up)))
 
-      node_fits : (p : Place) (c : Option Effects) (s : State) → is_shallow p ≡ true → effects_or_none c ≡ true → is_state_over t s ≡ true → AreFit (node_gives f m p c s)
+      node_fits : (p : Place) (c : Option Effects) (s : State) → is_shallow p ≡ true → effects_or_none c ≡ true → is_state_over t s ≡ true
+          → AreFit (node_gives f m p c s)
       node_fits p c s from is over =
           states_fit (f.narrow p s) (act_gives f m p (m.act p) c) (family.narrow p s over)
           (λ u up. act_fits p (m.act p) c u (λ step way acts. program.depth p step way from acts) from is up)
@@ -212,13 +221,16 @@ module _ (t : List ℕ) where
         by (Some v) over = at v (over v refl)
       callee_fits Back x fit = refl
 
+      -- what a key gives fits
       pub gives_fit : (x : Facts) → ((k : Key) (v : Fact) → x k ≡ Some v → fits t k v ≡ true) → (k : Key) → AreFit (gives f m k x)
       gives_fit x fit (key.Node p) = by (x (key.Node p)) (λ v is. fit (key.Node p) v is) where
         at : (v : Fact) → fits t (key.Node p) v ≡ true → AreFit (pieces_of (state_in (Some v)) (node_gives f m p (callee_of p.next x)))
-        at (fact.State s) is = let parts = fitting t (key.Node p) (fact.State s) is in node_fits p (callee_of p.next x) s parts.depths (callee_fits p.next x fit) parts.over
+        at (fact.State s) is = let parts = fitting t (key.Node p) (fact.State s) is in node_fits p (callee_of p.next x) s parts.depths
+            (callee_fits p.next x fit) parts.over
         at _ is = none_fit
 
-        by : (o : Option Fact) → ((v : Fact) → o ≡ Some v → fits t (key.Node p) v ≡ true) → AreFit (pieces_of (state_in o) (node_gives f m p (callee_of p.next x)))
+        by : (o : Option Fact) → ((v : Fact) → o ≡ Some v → fits t (key.Node p) v ≡ true)
+            → AreFit (pieces_of (state_in o) (node_gives f m p (callee_of p.next x)))
         by None is = none_fit
         by (Some v) is = at v (is v refl)
       gives_fit x fit (key.Edge p q) = none_fit

@@ -1,5 +1,6 @@
 -- What holds of the pieces that a place gives.
-use Rattle.std.proofs.Common.{◌≡◌, ℕ, zero, suc, ◌+◌, ◌≤◌, ◌⊎◌, inl, inr, ◌&&◌, Bool, true, false, List, [], ◌∷◌, ◌++◌, Option, Some, None, Contains, refl, sym, ap, subst, ◌∙◌, arith}
+use Rattle.std.proofs.Common.{◌≡◌, ℕ, zero, suc, ◌+◌, ◌≤◌, ◌⊎◌, inl, inr, ◌&&◌, Bool, true, false, List, [], ◌∷◌, ◌++◌, Option, Some, None, Contains}
+use Rattle.std.proofs.Common.{refl, sym, ap, subst, ◌∙◌, arith}
 use Rattle.std.specs.Prelude.{◌==◌, not, nat_lt, if◌then◌else◌}
 use Rattle.std.specs.List.{All, flat_map}
 use Rattle.std.proofs.lemmas.Bool.{agree_below_at, eq-eqb, false≢true, le-ltb, not-true, both_ways}
@@ -23,8 +24,13 @@ use Rattle.abs_state.specs.declared.key.Next.TheVariants.{At, Into, Back}
 use Rattle.abs_state.specs.declared.key.Place.{Place}
 use Rattle.transfer_rules.specs.Fact.{Piece, effects_in, state_in}
 use Rattle.transfer_rules.specs.Family.{Family, Program}
-use Rattle.transfer_rules.specs.Give.{Facts, act_beside, act_entered, act_gives, act_here, argument_registers, arguments, behind, beside, beside_to, called, called_effects, called_to, callee_of, delayed, effects, entered, entered_to, entered_with, entry_of, exits, gap, given_if, gives, goes, handed, here, here_to, is_behind, is_known, jumped_to, mask_of, node_gives, onward, pieces_of, place}
-use Rattle.transfer_rules.specs.Given.{ArgumentsAreNoReturnAddress, BranchesLeadToExits, CallsEnterDelays, CallsKeepTheRest, GapsAreEnds, IsBehindCall, IsEntered, IsExit, IsLed, OnlyPlacesGive, PlacesHaveEdges, PlacesSpeakOfTheirs, StubsKeepLocals, WritesAreSaid, sub_of}
+use Rattle.transfer_rules.specs.Give.{Facts, act_beside, act_entered, act_gives, act_here, argument_registers, arguments, behind, beside, beside_to}
+use Rattle.transfer_rules.specs.Give.{called, called_effects, called_to, callee_of, delayed, effects, entered, entered_to, entered_with, entry_of}
+use Rattle.transfer_rules.specs.Give.{exits, gap, given_if, gives, goes, handed, here, here_to, is_behind, is_known, jumped_to, mask_of, node_gives}
+use Rattle.transfer_rules.specs.Give.{onward, pieces_of, place}
+use Rattle.transfer_rules.specs.Given.{ArgumentsAreNoReturnAddress, BranchesLeadToExits, CallsEnterDelays, CallsKeepTheRest, GapsAreEnds}
+use Rattle.transfer_rules.specs.Given.{IsBehindCall, IsEntered, IsExit, IsLed, OnlyPlacesGive, PlacesHaveEdges, PlacesSpeakOfTheirs, StubsKeepLocals}
+use Rattle.transfer_rules.specs.Given.{WritesAreSaid, sub_of}
 use Rattle.transfer_rules.specs.declared.act.Act.{Act}
 use Rattle.transfer_rules.specs.declared.act.Act.TheVariants.{Dead, Open, Acts}
 use Rattle.transfer_rules.specs.declared.act.Exit.{Exit}
@@ -38,6 +44,7 @@ use Rattle.transfer_rules.specs.declared.step.Step.{Step}
 none_given : (j : Key) (v : Fact) → Contains {X = Piece} [] (j, v) → ⊥
 none_given j v has = let below = has.1 in omega arith
 
+-- only a program point gives anything
 pub only_places_give : OnlyPlacesGive
 only_places_give f m (key.Node p) j v x has = (p, refl)
 only_places_give f m (key.Edge p q) j v x has = absurd (none_given j v has)
@@ -46,7 +53,8 @@ only_places_give f m (key.Summary sub) j v x has = absurd (none_given j v has)
 only_places_give f m (key.Gap sub pc kind) j v x has = absurd (none_given j v has)
 
 -- what holds of each piece in its list, where more in the list changes nothing
-module _ (P : List Piece → Piece → Type 0) (left : (xs ys : List Piece) (piece : Piece) → P xs piece → P (xs ++ ys) piece) (right : (xs ys : List Piece) (piece : Piece) → P ys piece → P (xs ++ ys) piece) where
+module _ (P : List Piece → Piece → Type 0) (left : (xs ys : List Piece) (piece : Piece) → P xs piece → P (xs ++ ys) piece)
+    (right : (xs ys : List Piece) (piece : Piece) → P ys piece → P (xs ++ ys) piece) where
   abbrev Holds : List Piece → Type 0
   Holds ps = All (P ps) ps
 
@@ -102,7 +110,8 @@ module _ (P : List Piece → Piece → Type 0) (left : (xs ys : List Piece) (pie
     entered_to_hold : (next : Next) (depth : ℕ) (s : State) → p.next ≡ next → Holds (entered_to next m depth s)
     entered_to_hold (At n) depth s is = none_hold
     entered_to_hold (Into q) depth s is =
-        if_hold (not (m.is_stub q)) ((key.Node (entry_of q), fact.State (entered_with (arguments depth s))) ∷ []) (enters q (entered_with (arguments depth s)) is)
+        if_hold (not (m.is_stub q)) ((key.Node (entry_of q), fact.State (entered_with (arguments depth s))) ∷ [])
+        (enters q (entered_with (arguments depth s)) is)
     entered_to_hold Back depth s is = none_hold
 
     entered_hold : (step : Step) (way : Way) (s : State) → Holds (entered m p step way s)
@@ -193,6 +202,8 @@ all_edged f m p x =
     one_of (λ piece. Edged p ((key.Node (entry_of t), fact.State s) ∷ []) piece.0) (key.Node (entry_of t), fact.State s)
     (inr (record { callee = t; calls = is; entry = refl }))) f x
 
+-- a program point gives an edge to each one that it gives, but to the entry of what it calls; and an edge begins at the
+-- point that gives it, and leads to one of the same subprogram that it gives too
 pub places_have_edges : PlacesHaveEdges
 places_have_edges = record { edges = edges; places = places } where
   edges : (f : Family) (m : Program) (p q : Place) (v : Fact) (x : Facts) → Contains (gives f m (key.Node p) x) (key.Node q, v)
@@ -208,6 +219,7 @@ places_have_edges = record { edges = edges; places = places } where
 abbrev IsTheirs : Place → Key → Type 0
 IsTheirs p k = (sub_of k ≡ p.sub) ⊎ ((t : ℕ) × (p.next ≡ Into t) × (k ≡ key.Node (entry_of t)))
 
+-- what a program point gives speaks of its subprogram, but for the entry of what it calls
 pub places_speak_of_theirs : PlacesSpeakOfTheirs
 places_speak_of_theirs f m p k v x has =
     All-contains (λ piece. IsTheirs p piece.0) (gives f m (key.Node p) x) (k, v)
@@ -228,6 +240,7 @@ handed_none (Words words) = refl
 handed_none (Range lo hi) = refl
 handed_none Ret = refl
 
+-- no argument is handed on as the return address, which is that of one frame alone
 pub arguments_are_no_return_address : ArgumentsAreNoReturnAddress
 arguments_are_no_return_address f m p from t list x has =
     All-contains (λ piece. HandsNone piece.0 piece.1) (gives f m (key.Node p) x) (key.Call from t, fact.Args list)
@@ -261,13 +274,16 @@ module _ (P : Piece → Type 0) where
       (λ s found. all_of (f.narrow p s) (act_gives f m p (m.act p) (callee_of p.next x))
       (λ u left. subst (λ (a : Act). All P (act_gives f m p a (callee_of p.next x) u)) (sym is) (are (callee_of p.next x) u)))
 
+-- a program point whose instruction isn't followed gives that gap alone, and one where control doesn't come gives nothing
 pub gaps_are_ends : GapsAreEnds
 gaps_are_ends = record { unfollowed = opened; unreached = nothing } where
-  opened : (f : Family) (m : Program) (p : Place) (kind : GapKind) (k : Key) (v : Fact) (x : Facts) → m.act p ≡ Open kind → Contains (gives f m (key.Node p) x) (k, v)
+  opened : (f : Family) (m : Program) (p : Place) (kind : GapKind) (k : Key) (v : Fact) (x : Facts) → m.act p ≡ Open kind
+      → Contains (gives f m (key.Node p) x) (k, v)
       → k ≡ key.Gap p.sub p.pc kind
   opened f m p kind k v x is has =
       All-contains (λ piece. piece.0 ≡ key.Gap p.sub p.pc kind) (gives f m (key.Node p) x) (k, v)
-      (by_act (λ piece. piece.0 ≡ key.Gap p.sub p.pc kind) f m p x (Open kind) is (λ c s. one_of (λ piece. piece.0 ≡ key.Gap p.sub p.pc kind) (gap p kind) refl)) has
+      (by_act (λ piece. piece.0 ≡ key.Gap p.sub p.pc kind) f m p x (Open kind) is
+      (λ c s. one_of (λ piece. piece.0 ≡ key.Gap p.sub p.pc kind) (gap p kind) refl)) has
 
   nothing : (f : Family) (m : Program) (p : Place) (x : Facts) → m.act p ≡ Dead → gives f m (key.Node p) x ≡ []
   nothing f m p x is =
@@ -285,29 +301,38 @@ LeadsOut p first second (key.Call q t) = Unit {0}
 LeadsOut p first second (key.Summary sub) = Unit {0}
 LeadsOut p first second (key.Gap sub pc kind) = Unit {0}
 
+-- A branch leads to where its directions lead, and nowhere else. So an annulling branch that is untaken, whose direction
+-- is to the address behind the delay instruction, never leads to its delay instruction.
 pub branches_lead_to_exits : BranchesLeadToExits
 branches_lead_to_exits f m p q step first second v x is has =
     All-contains (λ piece. LeadsOut p first second piece.0) (gives f m (key.Node p) x) (key.Node q, v)
     (by_act (λ piece. LeadsOut p first second piece.0) f m p x (Acts step (Forks first second)) is act) has
   where
-    out : (exit : Option Exit) (s : State) → ((r : Place) → IsExit p r exit → IsExit p r first ⊎ IsExit p r second) → All (λ piece. LeadsOut p first second piece.0) (exits f p exit s)
+    out : (exit : Option Exit) (s : State) → ((r : Place) → IsExit p r exit → IsExit p r first ⊎ IsExit p r second)
+        → All (λ piece. LeadsOut p first second piece.0) (exits f p exit s)
     out None s to = All-nil (λ piece. LeadsOut p first second piece.0)
     out (Some exit) s to =
         all_of (λ piece. LeadsOut p first second piece.0) (f.test exit.test s) (goes p (place p exit.pc (At exit.npc) p.depth))
         (λ u left. two_of (λ piece. LeadsOut p first second piece.0) (key.Node (place p exit.pc (At exit.npc) p.depth), fact.State u)
-        (key.Edge p (place p exit.pc (At exit.npc) p.depth), fact.Mark) (to (place p exit.pc (At exit.npc) p.depth) (record { to = exit; is = refl; place = refl })) tt)
+        (key.Edge p (place p exit.pc (At exit.npc) p.depth), fact.Mark)
+        (to (place p exit.pc (At exit.npc) p.depth) (record { to = exit; is = refl; place = refl })) tt)
 
     act : (c : Option Effects) (s : State) → All (λ piece. LeadsOut p first second piece.0) (act_gives f m p (Acts step (Forks first second)) c s)
     act c s =
         All-append (λ piece. LeadsOut p first second piece.0) (act_beside f m p (Acts step (Forks first second)) c s)
         (act_here f p (Acts step (Forks first second)) c s ++ act_entered f m p (Acts step (Forks first second)) s)
-        (All-append (λ piece. LeadsOut p first second piece.0) (effects p.sub false false (mask_of step) ∷ []) (pieces_of (f.step step s) (beside f m p step (Forks first second) c s))
+        (All-append (λ piece. LeadsOut p first second piece.0) (effects p.sub false false (mask_of step) ∷ [])
+        (pieces_of (f.step step s) (beside f m p step (Forks first second) c s))
         (one_of (λ piece. LeadsOut p first second piece.0) (effects p.sub false false (mask_of step)) tt)
-        (all_of (λ piece. LeadsOut p first second piece.0) (f.step step s) (beside f m p step (Forks first second) c s) (λ u left. All-nil (λ piece. LeadsOut p first second piece.0))))
-        (All-append (λ piece. LeadsOut p first second piece.0) (act_here f p (Acts step (Forks first second)) c s) (act_entered f m p (Acts step (Forks first second)) s)
+        (all_of (λ piece. LeadsOut p first second piece.0) (f.step step s) (beside f m p step (Forks first second) c s)
+        (λ u left. All-nil (λ piece. LeadsOut p first second piece.0))))
+        (All-append (λ piece. LeadsOut p first second piece.0) (act_here f p (Acts step (Forks first second)) c s)
+        (act_entered f m p (Acts step (Forks first second)) s)
         (all_of (λ piece. LeadsOut p first second piece.0) (f.step step s) (here f p step (Forks first second) c s)
-        (λ u left. All-append (λ piece. LeadsOut p first second piece.0) (exits f p first u) (exits f p second u) (out first u (λ r exit. inl exit)) (out second u (λ r exit. inr exit))))
-        (all_of (λ piece. LeadsOut p first second piece.0) (f.step step s) (entered m p step (Forks first second)) (λ u left. All-nil (λ piece. LeadsOut p first second piece.0))))
+        (λ u left. All-append (λ piece. LeadsOut p first second piece.0) (exits f p first u) (exits f p second u) (out first u (λ r exit. inl exit))
+        (out second u (λ r exit. inr exit))))
+        (all_of (λ piece. LeadsOut p first second piece.0) (f.step step s) (entered m p step (Forks first second))
+        (λ u left. All-nil (λ piece. LeadsOut p first second piece.0))))
 
 -- calls
 abbrev IsDelay : Place → Place → Type 0
@@ -320,9 +345,11 @@ EntersDelay p (key.Call q t) = Unit {0}
 EntersDelay p (key.Summary sub) = Unit {0}
 EntersDelay p (key.Gap sub pc kind) = Unit {0}
 
+-- a call leads to its delay instruction, with a target that isn't the address behind that
 pub calls_enter_delays : CallsEnterDelays
 calls_enter_delays f m p q step aim v x is has =
-    All-contains (λ piece. EntersDelay p piece.0) (gives f m (key.Node p) x) (key.Node q, v) (by_act (λ piece. EntersDelay p piece.0) f m p x (Acts step (CallsTo aim)) is act) has
+    All-contains (λ piece. EntersDelay p piece.0) (gives f m (key.Node p) x) (key.Node q, v)
+    (by_act (λ piece. EntersDelay p piece.0) f m p x (Acts step (CallsTo aim)) is act) has
   where
     apart : (t : ℕ) → not (is_behind p t) ≡ true → t ≡ behind p.pc 8 → ⊥
     apart t other same = both_ways (is_behind p t) (not-true (is_behind p t) other) (eq-eqb t (behind p.pc 8) same)
@@ -331,7 +358,8 @@ calls_enter_delays f m p q step aim v x is has =
     act c s =
         All-append (λ piece. EntersDelay p piece.0) (act_beside f m p (Acts step (CallsTo aim)) c s)
         (act_here f p (Acts step (CallsTo aim)) c s ++ act_entered f m p (Acts step (CallsTo aim)) s)
-        (All-append (λ piece. EntersDelay p piece.0) (effects p.sub false false (mask_of step) ∷ []) (pieces_of (f.step step s) (beside f m p step (CallsTo aim) c s))
+        (All-append (λ piece. EntersDelay p piece.0) (effects p.sub false false (mask_of step) ∷ [])
+        (pieces_of (f.step step s) (beside f m p step (CallsTo aim) c s))
         (one_of (λ piece. EntersDelay p piece.0) (effects p.sub false false (mask_of step)) tt)
         (all_of (λ piece. EntersDelay p piece.0) (f.step step s) (beside f m p step (CallsTo aim) c s)
         (λ u left. all_if (λ piece. EntersDelay p piece.0) (not (is_known p (f.resolve p.pc aim s))) (gap p why.Call ∷ [])
@@ -340,7 +368,8 @@ calls_enter_delays f m p q step aim v x is has =
         (all_of (λ piece. EntersDelay p piece.0) (f.step step s) (here f p step (CallsTo aim) c s)
         (λ u left. all_each (λ piece. EntersDelay p piece.0) (called_to p u) (f.resolve p.pc aim s).list
         (λ t. all_if (λ piece. EntersDelay p piece.0) (not (is_behind p t)) (goes p (delayed p (Into t)) u)
-        (λ other. two_of (λ piece. EntersDelay p piece.0) (key.Node (delayed p (Into t)), fact.State u) (key.Edge p (delayed p (Into t)), fact.Mark) (t, apart t other, refl) tt))))
+        (λ other. two_of (λ piece. EntersDelay p piece.0) (key.Node (delayed p (Into t)), fact.State u) (key.Edge p (delayed p (Into t)), fact.Mark)
+        (t, apart t other, refl) tt))))
         (all_of (λ piece. EntersDelay p piece.0) (f.step step s) (entered m p step (CallsTo aim)) (λ u left. All-nil (λ piece. EntersDelay p piece.0))))
 
 -- the cells that aren't forgotten
@@ -371,6 +400,8 @@ IsBehind f p step there before _ _ = Unit {0}
 abbrev Behind : Family → Place → Step → Effects → State → Piece → Type 0
 Behind f p step there before piece = IsBehind f p step there before piece.0 piece.1
 
+-- behind a call each cell that the callee may not write is what the delay instruction left, and nothing is known of the
+-- condition codes
 pub calls_keep_the_rest : CallsKeepTheRest
 calls_keep_the_rest f m p q t step there before u x next act found callee has =
     All-contains (Behind f p step there before) (gives f m (key.Node p) x) (key.Node q, fact.State u) given has
@@ -390,29 +421,39 @@ calls_keep_the_rest f m p q t step there before u x next act found callee has =
     goes_on : (r : Place) (s : State) → IsBehindCall f p step there before s → All (Behind f p step there before) (goes p r s)
     goes_on r s is = two_of (Behind f p step there before) (key.Node r, fact.State s) (key.Edge p r, fact.Mark) (inr is) tt
 
-    at_call : (allowed after : State) → f.narrow p before ≡ Some allowed → f.step step allowed ≡ Some after → All (Behind f p step there before) (called p step.depth there after)
+    at_call : (allowed after : State) → f.narrow p before ≡ Some allowed → f.step step allowed ≡ Some after
+        → All (Behind f p step there before) (called p step.depth there after)
     at_call allowed after left stepped =
         let is = behind_call allowed after left stepped in
         let s : State = without after (after_call there.written step.depth) in
-        All-append (Behind f p step there before) (given_if there.returns (goes p (onward p (behind p.pc 4) step.depth) s)) (given_if there.skips (goes p (onward p (behind p.pc 8) step.depth) s))
-        (all_if (Behind f p step there before) there.returns (goes p (onward p (behind p.pc 4) step.depth) s) (λ returns. goes_on (onward p (behind p.pc 4) step.depth) s is))
-        (all_if (Behind f p step there before) there.skips (goes p (onward p (behind p.pc 8) step.depth) s) (λ skips. goes_on (onward p (behind p.pc 8) step.depth) s is))
+        All-append (Behind f p step there before) (given_if there.returns (goes p (onward p (behind p.pc 4) step.depth) s))
+        (given_if there.skips (goes p (onward p (behind p.pc 8) step.depth) s))
+        (all_if (Behind f p step there before) there.returns (goes p (onward p (behind p.pc 4) step.depth) s)
+        (λ returns. goes_on (onward p (behind p.pc 4) step.depth) s is))
+        (all_if (Behind f p step there before) there.skips (goes p (onward p (behind p.pc 8) step.depth) s)
+        (λ skips. goes_on (onward p (behind p.pc 8) step.depth) s is))
 
-    onwards : (allowed : State) → f.narrow p before ≡ Some allowed → All (Behind f p step there before) (act_gives f m p (Acts step Onward) (Some there) allowed)
+    onwards : (allowed : State) → f.narrow p before ≡ Some allowed
+        → All (Behind f p step there before) (act_gives f m p (Acts step Onward) (Some there) allowed)
     onwards allowed left =
-        All-append (Behind f p step there before) (act_beside f m p (Acts step Onward) (Some there) allowed) (act_here f p (Acts step Onward) (Some there) allowed ++ act_entered f m p (Acts step Onward) allowed)
-        (All-append (Behind f p step there before) (effects p.sub false false (mask_of step) ∷ []) (pieces_of (f.step step allowed) (beside f m p step Onward (Some there) allowed))
+        All-append (Behind f p step there before) (act_beside f m p (Acts step Onward) (Some there) allowed)
+        (act_here f p (Acts step Onward) (Some there) allowed ++ act_entered f m p (Acts step Onward) allowed)
+        (All-append (Behind f p step there before) (effects p.sub false false (mask_of step) ∷ [])
+        (pieces_of (f.step step allowed) (beside f m p step Onward (Some there) allowed))
         (one_of (Behind f p step there before) (effects p.sub false false (mask_of step)) tt)
         (all_of (Behind f p step there before) (f.step step allowed) (beside f m p step Onward (Some there) allowed)
         (λ after stepped. subst (λ (n : Next). All (Behind f p step there before) (beside_to n m p step.depth (Some there) after)) (sym next)
-        (two_of (Behind f p step there before) (key.Call p t, fact.Args (arguments step.depth after)) (effects p.sub false false (after_call there.written step.depth)) tt tt))))
+        (two_of (Behind f p step there before) (key.Call p t, fact.Args (arguments step.depth after))
+        (effects p.sub false false (after_call there.written step.depth)) tt tt))))
         (All-append (Behind f p step there before) (act_here f p (Acts step Onward) (Some there) allowed) (act_entered f m p (Acts step Onward) allowed)
         (all_of (Behind f p step there before) (f.step step allowed) (here f p step Onward (Some there) allowed)
-        (λ after stepped. subst (λ (n : Next). All (Behind f p step there before) (here_to n p step.depth (Some there) after)) (sym next) (at_call allowed after left stepped)))
+        (λ after stepped. subst (λ (n : Next). All (Behind f p step there before) (here_to n p step.depth (Some there) after)) (sym next)
+        (at_call allowed after left stepped)))
         (all_of (Behind f p step there before) (f.step step allowed) (entered m p step Onward)
         (λ after stepped. subst (λ (n : Next). All (Behind f p step there before) (entered_to n m step.depth after)) (sym next)
         (all_if (Behind f p step there before) (not (m.is_stub t)) ((key.Node (entry_of t), fact.State (entered_with (arguments step.depth after))) ∷ [])
-        (λ followed. one_of (Behind f p step there before) (key.Node (entry_of t), fact.State (entered_with (arguments step.depth after))) (inl (record { callee = t; calls = next; entry = refl })))))))
+        (λ followed. one_of (Behind f p step there before) (key.Node (entry_of t), fact.State (entered_with (arguments step.depth after)))
+        (inl (record { callee = t; calls = next; entry = refl })))))))
 
     callee_is : callee_of p.next x ≡ Some there
     callee_is = subst (λ (n : Next). callee_of n x ≡ Some there) (sym next) (ap effects_in callee)
@@ -442,12 +483,14 @@ stub_at depth r is from =
     and_true (has_cell (after_call effects_of_stub.written depth) (cell_of depth r))
     (subst (λ (c : Bool). (has_cell (after_call effects_of_stub.written depth) (cell_of depth r) && not c) ≡ false) (le-ltb r 16 from) is)
 
+-- a call of a stub keeps the local and the in registers of the window in which it is made
 pub stubs_keep_locals : StubsKeepLocals
 unfolding stub_test
 stubs_keep_locals zero r low from to = stub_at 0 r (agree_below_at (stub_test 0) (λ n. false) 32 r refl to) from
 stubs_keep_locals (suc zero) r low from to = stub_at 1 r (agree_below_at (stub_test 1) (λ n. false) 32 r refl to) from
 stubs_keep_locals (suc (suc n)) r low from to = absurd (omega arith)
 
+-- what a step writes is said of its subprogram, also where no run goes on
 pub writes_are_said : WritesAreSaid
 writes_are_said f m p step way before allowed x act found left =
     let piece : Piece = (key.Summary p.sub, fact.Sum (record { returns = false; skips = false; written = mask_of step })) in

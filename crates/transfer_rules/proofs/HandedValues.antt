@@ -80,6 +80,7 @@ cell_over t s c is over =
           subst (λ (v : Value). is_over t v ≡ true) (sym (get_or_past s.cells c top (let e = parts.size in omega arith))) (top_over t is)
     ]
 
+-- a greater state has greater cells
 pub cell_up : (t more : List ℕ) (a b : State) (c : ℕ) → IsUnder t more a b → is_at_most (cell_at a c) (cell_at b c) ≡ true
 cell_up t more a b c under =
     let cells = (and_parts (are_at_most a.cells b.cells) (flags_at_most a.flags b.flags) under.up).0 in
@@ -102,6 +103,7 @@ mapped_over : (t : List ℕ) (f : ℕ → Value) (rs : List ℕ) → ((r : ℕ) 
 mapped_over t f [] over = refl
 mapped_over t f (r ∷ rs) over = and_from (is_over t (f r)) (list_all (is_over t) (map f rs)) (over r) (mapped_over t f rs over)
 
+-- a greater state hands on greater arguments
 pub arguments_up : (t more : List ℕ) (depth : ℕ) (a b : State) → IsUnder t more a b → are_at_most (arguments depth a) (arguments depth b) ≡ true
 arguments_up t more depth a b under =
     mapped_up (λ r. handed (cell_at a (cell_of depth r))) (λ r. handed (cell_at b (cell_of depth r))) argument_registers
@@ -112,6 +114,7 @@ arguments_over t depth s is over =
     mapped_over t (λ r. handed (cell_at s (cell_of depth r))) argument_registers
     (λ r. handed_over t (cell_at s (cell_of depth r)) is (cell_over t s (cell_of depth r) is over))
 
+-- the arguments of a state are a fact over the thresholds
 pub arguments_fit : (t : List ℕ) (depth : ℕ) (s : State) → IsThresholds t → is_state_over t s ≡ true → is_fact_over t (fact.Args (arguments depth s)) ≡ true
 arguments_fit t depth s is over = and_from (length (arguments depth s) == 13) (list_all (is_over t) (arguments depth s)) refl (arguments_over t depth s is over)
 
@@ -134,9 +137,11 @@ each_over t s (r ∷ rs) (v ∷ vs) over values =
     let parts = and_parts (is_over t v) (list_all (is_over t) vs) values in
     each_over t (with_cell s r v) rs vs (writes_stand.cell t s r v over parts.0) parts.1
 
+-- greater arguments are entered with a greater state
 pub entered_up : (vs us : List Value) → is_state_at_most entry_state entry_state ≡ true → are_at_most vs us ≡ true
     → is_state_at_most (entered_with vs) (entered_with us) ≡ true
 entered_up vs us same values = each_up entry_state entry_state argument_registers vs us same values
 
+-- the state of an entry with arguments may stand where the state of the call may
 pub entered_over : (t : List ℕ) (depth : ℕ) (s : State) → IsThresholds t → is_state_over t s ≡ true → is_state_over t (entered_with (arguments depth s)) ≡ true
 entered_over t depth s is over = each_over t entry_state argument_registers (arguments depth s) (writes_stand.entry t is) (arguments_over t depth s is over)

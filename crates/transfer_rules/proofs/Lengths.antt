@@ -1,5 +1,6 @@
 -- What a key gives is short, and looks only at what is read.
-use Rattle.std.proofs.Common.{◌≡◌, ℕ, ◌+◌, ◌*◌, ◌≤◌, Bool, true, false, List, [], ◌∷◌, ◌++◌, length, Option, Some, None, Contains, length-append, refl, ap, ◌∙◌, arith}
+use Rattle.std.proofs.Common.{◌≡◌, ℕ, ◌+◌, ◌*◌, ◌≤◌, Bool, true, false, List, [], ◌∷◌, ◌++◌, length, Option, Some, None, Contains, length-append}
+use Rattle.std.proofs.Common.{refl, ap, ◌∙◌, arith}
 use Rattle.std.specs.Prelude.{◌==◌, not, if◌then◌else◌}
 use Rattle.std.specs.List.{flat_map}
 use Rattle.std.proofs.lemmas.Bool.{true≢false}
@@ -18,7 +19,9 @@ use Rattle.abs_state.specs.declared.key.Place.{Place}
 use Rattle.transfer_rules.proofs.FactKinds.{fitting}
 use Rattle.transfer_rules.specs.Fact.{Piece, effects_in, fits, state_in}
 use Rattle.transfer_rules.specs.Family.{Family, Program}
-use Rattle.transfer_rules.specs.Give.{Facts, act_gives, behind, beside, beside_to, called, called_effects, called_to, callee_key, callee_of, delayed, effects, entered, entered_to, entry_of, exits, gap, given_if, gives, goes, here, here_to, is_behind, is_counted, is_known, jumped_to, mask_of, node_gives, onward, pieces_of, reads}
+use Rattle.transfer_rules.specs.Give.{Facts, act_gives, behind, beside, beside_to, called, called_effects, called_to, callee_key, callee_of, delayed}
+use Rattle.transfer_rules.specs.Give.{effects, entered, entered_to, entry_of, exits, gap, given_if, gives, goes, here, here_to, is_behind, is_counted}
+use Rattle.transfer_rules.specs.Give.{is_known, jumped_to, mask_of, node_gives, onward, pieces_of, reads}
 use Rattle.transfer_rules.specs.Lawful.{IsLawfulFamily, is_over_or_none, most}
 use Rattle.transfer_rules.specs.declared.act.Act.{Act}
 use Rattle.transfer_rules.specs.declared.act.Act.TheVariants.{Dead, Open, Acts}
@@ -81,7 +84,8 @@ entered_short m p step (JumpsTo aim) s = omega arith
 entered_short m p step (ReturnsBy x) s = omega arith
 
 module _ (t : List ℕ) (m : Program) (f : Family) (family : IsLawfulFamily t m.widest f) where
-  states_short : (o : Option State) (give : State → List Piece) (n : ℕ) → is_over_or_none t o ≡ true → ((s : State) → is_state_over t s ≡ true → length (give s) ≤ n)
+  states_short : (o : Option State) (give : State → List Piece) (n : ℕ) → is_over_or_none t o ≡ true
+      → ((s : State) → is_state_over t s ≡ true → length (give s) ≤ n)
       → length (pieces_of o give) ≤ n
   states_short None give n over short = omega arith
   states_short (Some s) give n over short = short s over
@@ -96,7 +100,8 @@ module _ (t : List ℕ) (m : Program) (f : Family) (family : IsLawfulFamily t m.
   here_short p step (Forks one two) c before s over =
       let n = both_short (exits f p one s) (exits f p two s) 2 2 (exits_short p one s) (exits_short p two s) in omega arith
   here_short p step (CallsTo aim) c before s over =
-      let n = each_short (called_to p s) (f.resolve p.pc aim before).list (λ q. given_short (not (is_behind p q)) (goes p (delayed p (Into q)) s) 2 (omega arith)) in
+      let n = each_short (called_to p s) (f.resolve p.pc aim before).list
+      (λ q. given_short (not (is_behind p q)) (goes p (delayed p (Into q)) s) 2 (omega arith)) in
       let few = family.few p.pc aim before over in
       omega arith
   here_short p step (JumpsTo aim) c before s over =
@@ -125,6 +130,7 @@ module _ (t : List ℕ) (m : Program) (f : Family) (family : IsLawfulFamily t m.
       (pieces_of (f.step step s) (here f p step way c s) ++ pieces_of (f.step step s) (entered m p step way)) in
       omega arith
 
+  -- what a key gives is short
   pub gives_short : (x : Facts) → ((k : Key) (v : Fact) → x k ≡ Some v → fits t k v ≡ true) → (k : Key) → length (gives f m k x) ≤ most m
   gives_short x fit (key.Node p) = by (x (key.Node p)) (fit (key.Node p)) where
     node : (c : Option Effects) (s : State) → is_state_over t s ≡ true → length (node_gives f m p c s) ≤ most m
@@ -134,7 +140,8 @@ module _ (t : List ℕ) (m : Program) (f : Family) (family : IsLawfulFamily t m.
     at (fact.State s) is = node (callee_of p.next x) s (fitting t (key.Node p) (fact.State s) is).over
     at _ is = omega arith
 
-    by : (o : Option Fact) → ((v : Fact) → o ≡ Some v → fits t (key.Node p) v ≡ true) → length (pieces_of (state_in o) (node_gives f m p (callee_of p.next x))) ≤ most m
+    by : (o : Option Fact) → ((v : Fact) → o ≡ Some v → fits t (key.Node p) v ≡ true)
+        → length (pieces_of (state_in o) (node_gives f m p (callee_of p.next x))) ≤ most m
     by None is = omega arith
     by (Some v) is = at v (is v refl)
   gives_short x fit (key.Edge p q) = omega arith
@@ -142,6 +149,7 @@ module _ (t : List ℕ) (m : Program) (f : Family) (family : IsLawfulFamily t m.
   gives_short x fit (key.Summary sub) = omega arith
   gives_short x fit (key.Gap sub pc kind) = omega arith
 
+-- what a key reads is short
 pub reads_short : (m : Program) (k : Key) → length (reads k) ≤ most m
 reads_short m (key.Node p) = by p.next where
   by : (next : Next) → length (key.Node p ∷ callee_key next) ≤ most m
@@ -169,7 +177,8 @@ gives_looks f m x y (key.Node p) same =
     ap (λ (o : Option Fact). pieces_of (state_in o) (node_gives f m p (callee_of p.next x))) here
     ∙ ap (λ (c : Option Effects). pieces_of (state_in (y (key.Node p))) (node_gives f m p c)) there
   where
-    callee : (next : Next) → ((q : ℕ) → Contains (key.Node p ∷ callee_key next) (key.Summary q) → x (key.Summary q) ≡ y (key.Summary q)) → callee_of next x ≡ callee_of next y
+    callee : (next : Next) → ((q : ℕ) → Contains (key.Node p ∷ callee_key next) (key.Summary q) → x (key.Summary q) ≡ y (key.Summary q))
+        → callee_of next x ≡ callee_of next y
     callee (At n) at = refl
     callee (Into q) at = ap effects_in (at q (1, omega arith, refl))
     callee Back at = refl

@@ -1,5 +1,6 @@
 -- Lists of pieces: one is covered by another, which has for each of its pieces one of its key that is at least as great.
-use Rattle.std.proofs.Common.{◌≡◌, ℕ, zero, suc, ◌<◌, Bool, true, false, List, [], ◌∷◌, ◌++◌, length, Option, Some, None, Contains, refl, sym, ap, subst, ◌∙◌, arith, inl, inr}
+use Rattle.std.proofs.Common.{◌≡◌, ℕ, zero, suc, ◌<◌, Bool, true, false, List, [], ◌∷◌, ◌++◌, length, Option, Some, None, Contains, refl, sym, ap}
+use Rattle.std.proofs.Common.{subst, ◌∙◌, arith, inl, inr}
 use Rattle.std.specs.Prelude.{slice_index_or}
 use Rattle.std.specs.List.{All, flat_map, list_any}
 use Rattle.std.proofs.lemmas.Bool.{false≢true, or_cases, or_left, or_right}
@@ -31,6 +32,7 @@ above_left xs ys piece is = record { fact = is.fact; listed = Contains-append_le
 above_right : (xs ys : List Piece) (piece : Piece) → IsAbove ys piece → IsAbove (xs ++ ys) piece
 above_right xs ys piece is = record { fact = is.fact; listed = Contains-append_right xs ys (piece.0, is.fact) is.listed; above = is.above }
 
+-- no piece is covered by any
 pub none_covered : (others : List Piece) → AreCovered [] others
 none_covered others = All-nil (IsAbove others)
 
@@ -40,6 +42,7 @@ covered_left pieces xs ys are = All-weaker (IsAbove xs) (IsAbove (xs ++ ys)) (ab
 pub covered_right : (pieces xs ys : List Piece) → AreCovered pieces ys → AreCovered pieces (xs ++ ys)
 covered_right pieces xs ys are = All-weaker (IsAbove ys) (IsAbove (xs ++ ys)) (above_right xs ys) pieces are
 
+-- two lists are covered by two
 pub both_covered : (ps qs xs ys : List Piece) → AreCovered ps xs → AreCovered qs ys → AreCovered (ps ++ qs) (xs ++ ys)
 both_covered ps qs xs ys one two = All-append (IsAbove (xs ++ ys)) ps qs (covered_left ps xs ys one) (covered_right qs xs ys two)
 
@@ -49,6 +52,7 @@ first_covered k v u ps qs up rest =
     All-cons (IsAbove ((k, u) ∷ qs)) (k, v) ps (record { fact = u; listed = (0, omega arith, refl); above = up })
     (covered_right ps ((k, u) ∷ []) qs rest)
 
+-- one piece is covered by a greater one
 pub one_covered : (k : Key) (v u : Fact) → is_at_most v u ≡ true → AreCovered ((k, v) ∷ []) ((k, u) ∷ [])
 one_covered k v u up = first_covered k v u [] [] up (none_covered [])
 
@@ -60,11 +64,13 @@ given_covered false b ps qs more are = none_covered (given_if b qs)
 
 -- what each of a list gives, where another list has them all
 module _ {A : Type 0} (g : A → List Piece) where
-  covered_at : (ys : List A) (x : A) (k : ℕ) → k < length ys → slice_index_or ys k x ≡ x → (ps : List Piece) → AreCovered ps (g x) → AreCovered ps (flat_map g ys)
+  covered_at : (ys : List A) (x : A) (k : ℕ) → k < length ys → slice_index_or ys k x ≡ x → (ps : List Piece) → AreCovered ps (g x)
+      → AreCovered ps (flat_map g ys)
   covered_at [] x k below is ps are = absurd (omega arith)
   covered_at (y ∷ ys) x zero below is ps are = covered_left ps (g y) (flat_map g ys) (subst (λ (z : A). AreCovered ps (g z)) (sym is) are)
   covered_at (y ∷ ys) x (suc k) below is ps are = covered_right ps (g y) (flat_map g ys) (covered_at ys x k (omega arith) is ps are)
 
+  -- what is given for each is covered by what is given for more
   pub each_covered : (f : A → List Piece) (xs ys : List A) → ((a : A) → Contains xs a → Contains ys a) → ((a : A) → AreCovered (f a) (g a))
       → AreCovered (flat_map f xs) (flat_map g ys)
   each_covered f [] ys more are = none_covered (flat_map g ys)
@@ -80,6 +86,7 @@ module _ {A : Type 0} (test : A → Bool) where
   any_at (y ∷ ys) x zero below is passes = or_left (test y) (list_any test ys) (ap test is ∙ passes)
   any_at (y ∷ ys) x (suc k) below is passes = or_right (test y) (list_any test ys) (any_at ys x k (omega arith) is passes)
 
+  -- what passes a test in a list passes it in a longer one
   pub any_of_more : (xs ys : List A) → ((a : A) → Contains xs a → Contains ys a) → list_any test xs ≡ true → list_any test ys ≡ true
   any_of_more [] ys more passes = absurd (false≢true passes)
   any_of_more (x ∷ xs) ys more passes =
@@ -107,5 +114,6 @@ step_covered p q a b up =
     first_covered (key.Node q) (fact.State a) (fact.State b) ((key.Edge p q, fact.Mark) ∷ []) ((key.Edge p q, fact.Mark) ∷ []) up
     (one_covered (key.Edge p q) fact.Mark fact.Mark refl)
 
+-- a gap is covered by itself
 pub gap_covered : (p : Place) (kind : GapKind) → AreCovered (gap p kind ∷ []) (gap p kind ∷ [])
 gap_covered p kind = one_covered (key.Gap p.sub p.pc kind) fact.Mark fact.Mark refl

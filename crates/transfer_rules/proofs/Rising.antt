@@ -22,10 +22,14 @@ use Rattle.abs_state.specs.declared.key.Next.TheVariants.{At, Into, Back}
 use Rattle.abs_state.specs.declared.key.Place.{Place}
 use Rattle.transfer_rules.proofs.FactKinds.{fitting}
 use Rattle.transfer_rules.proofs.HandedValues.{arguments_up, cell_up, entered_up, under_ret}
-use Rattle.transfer_rules.proofs.PieceLists.{AreCovered, IsUnder, any_of_more, both_covered, each_covered, first_covered, gap_covered, given_covered, none_covered, one_covered, states_covered, step_covered}
+use Rattle.transfer_rules.proofs.PieceLists.{AreCovered, IsUnder, any_of_more, both_covered, each_covered, first_covered, gap_covered, given_covered}
+use Rattle.transfer_rules.proofs.PieceLists.{none_covered, one_covered, states_covered, step_covered}
 use Rattle.transfer_rules.specs.Fact.{Piece, effects_in, fits, is_at_most, is_fact_over, state_in}
 use Rattle.transfer_rules.specs.Family.{Family, Program}
-use Rattle.transfer_rules.specs.Give.{Facts, act_beside, act_entered, act_gives, act_here, arguments, behind, beside, beside_to, called, called_effects, called_to, callee_of, delayed, effects, entered, entered_to, entered_with, entry_of, exits, gap, given_if, gives, goes, here, here_to, is_behind, is_known, jumped_to, mask_of, node_gives, onward, pieces_of, place}
+use Rattle.transfer_rules.specs.Give.{Facts, act_beside, act_entered, act_gives, act_here, arguments, behind, beside, beside_to, called}
+use Rattle.transfer_rules.specs.Give.{called_effects, called_to, callee_of, delayed, effects, entered, entered_to, entered_with, entry_of, exits, gap}
+use Rattle.transfer_rules.specs.Give.{given_if, gives, goes, here, here_to, is_behind, is_known, jumped_to, mask_of, node_gives, onward, pieces_of}
+use Rattle.transfer_rules.specs.Give.{place}
 use Rattle.transfer_rules.specs.Lawful.{IsFinerFamily, IsLawfulFamily, is_less, is_over_or_none}
 use Rattle.transfer_rules.specs.declared.act.Act.{Act}
 use Rattle.transfer_rules.specs.declared.act.Act.TheVariants.{Dead, Open, Acts}
@@ -84,7 +88,8 @@ module _ (t more : List ℕ) (m : Program) (entry_up : is_state_at_most entry_st
       (goes p (onward p (behind p.pc 8) depth) (without b (after_call d.written depth))) (implied c.skips d.skips parts.skips)
       (step_covered p (onward p (behind p.pc 8) depth) (without a (after_call c.written depth)) (without b (after_call d.written depth)) states))
 
-  called_effects_up : (p : Place) (depth : ℕ) (c d : Effects) → are_effects_at_most c d ≡ true → AreCovered (called_effects p depth c) (called_effects p depth d)
+  called_effects_up : (p : Place) (depth : ℕ) (c d : Effects) → are_effects_at_most c d ≡ true
+      → AreCovered (called_effects p depth c) (called_effects p depth d)
   called_effects_up p depth c d less =
       let parts = up_parts c d less in
       let lower : Effects = record { returns = false; skips = false; written = after_call c.written depth } in
@@ -107,7 +112,8 @@ module _ (t more : List ℕ) (m : Program) (entry_up : is_state_at_most entry_st
       (pieces_of d (called_effects p depth)) (arguments_up t more depth a b under)
       (effects_covered c d (called_effects p depth) (called_effects p depth) less (called_effects_up p depth))
   beside_to_up Back p depth c d a b less under = back (depth == 0) where
-    back : (b : Bool) → AreCovered (if b then effects p.sub (not (m.skips p)) (m.skips p) 0 ∷ [] else gap p why.Instr ∷ []) (if b then effects p.sub (not (m.skips p)) (m.skips p) 0 ∷ [] else gap p why.Instr ∷ [])
+    back : (b : Bool) → AreCovered (if b then effects p.sub (not (m.skips p)) (m.skips p) 0 ∷ [] else gap p why.Instr ∷ [])
+        (if b then effects p.sub (not (m.skips p)) (m.skips p) 0 ∷ [] else gap p why.Instr ∷ [])
     back true = same_effects p.sub (not (m.skips p)) (m.skips p) 0
     back false = gap_covered p why.Instr
 
@@ -131,11 +137,13 @@ module _ (t more : List ℕ) (m : Program) (entry_up : is_state_at_most entry_st
     exits_up : (p : Place) (exit : Option Exit) (a b : State) → IsUnder t more a b → AreCovered (exits g p exit a) (exits f p exit b)
     exits_up p None a b under = none_covered []
     exits_up p (Some exit) a b under =
-        states_covered t more (g.test exit.test a) (f.test exit.test b) (goes p (place p exit.pc (At exit.npc) p.depth)) (goes p (place p exit.pc (At exit.npc) p.depth))
+        states_covered t more (g.test exit.test a) (f.test exit.test b) (goes p (place p exit.pc (At exit.npc) p.depth))
+        (goes p (place p exit.pc (At exit.npc) p.depth))
         (fine.test exit.test a under.lower) (coarse.test exit.test b under.upper) (law.test exit.test a b under.lower under.upper under.up)
         (λ x y up. step_covered p (place p exit.pc (At exit.npc) p.depth) x y up.up)
 
-    here_rises : (p : Place) (step : Step) (way : Way) (c d : Option Effects) (before after a b : State) → are_effects_less c d ≡ true → IsUnder t more before after → IsUnder t more a b
+    here_rises : (p : Place) (step : Step) (way : Way) (c d : Option Effects) (before after a b : State) → are_effects_less c d ≡ true
+        → IsUnder t more before after → IsUnder t more a b
         → AreCovered (here g p step way c before a) (here f p step way d after b)
     here_rises p step Onward c d before after a b less first under = here_to_up p.next p step.depth c d a b less under
     here_rises p step (Forks one two) c d before after a b less first under =
@@ -154,16 +162,19 @@ module _ (t more : List ℕ) (m : Program) (entry_up : is_state_at_most entry_st
         (λ is. the_order_is_one.onward Ret (cell_at before x) (cell_at after x) is (cell_up t more before after x first))
         (step_covered p (delayed p Back) a b under.up)
 
-    known_down : (p : Place) (aim : Aim) (before after : State) → IsUnder t more before after → is_known p (f.resolve p.pc aim after) ≡ true → is_known p (g.resolve p.pc aim before) ≡ true
+    known_down : (p : Place) (aim : Aim) (before after : State) → IsUnder t more before after → is_known p (f.resolve p.pc aim after) ≡ true
+        → is_known p (g.resolve p.pc aim before) ≡ true
     known_down p aim before after first is =
         let parts = and_parts (f.resolve p.pc aim after).whole (not (list_any (is_behind p) (f.resolve p.pc aim after).list)) is in
         and_from (g.resolve p.pc aim before).whole (not (list_any (is_behind p) (g.resolve p.pc aim before).list))
         (law.whole p.pc aim before after first.lower first.upper first.up parts.0)
         (turned (list_any (is_behind p) (f.resolve p.pc aim after).list) (list_any (is_behind p) (g.resolve p.pc aim before).list)
-        (any_of_more (is_behind p) (g.resolve p.pc aim before).list (f.resolve p.pc aim after).list (law.list p.pc aim before after first.lower first.upper first.up))
+        (any_of_more (is_behind p) (g.resolve p.pc aim before).list (f.resolve p.pc aim after).list
+        (law.list p.pc aim before after first.lower first.upper first.up))
         parts.1)
 
-    beside_rises : (p : Place) (step : Step) (way : Way) (c d : Option Effects) (before after a b : State) → are_effects_less c d ≡ true → IsUnder t more before after → IsUnder t more a b
+    beside_rises : (p : Place) (step : Step) (way : Way) (c d : Option Effects) (before after a b : State) → are_effects_less c d ≡ true
+        → IsUnder t more before after → IsUnder t more a b
         → AreCovered (beside g m p step way c before a) (beside f m p step way d after b)
     beside_rises p step Onward c d before after a b less first under = beside_to_up p.next p step.depth c d a b less under
     beside_rises p step (Forks one two) c d before after a b less first under = none_covered []
@@ -218,7 +229,8 @@ module _ (t more : List ℕ) (m : Program) (entry_up : is_state_at_most entry_st
         (both_covered (act_here g p act c a) (act_entered g m p act a) (act_here f p act d b) (act_entered f m p act b)
         (act_here_up p act c d a b less under) (act_entered_up p act a b under))
 
-    node_up : (p : Place) (c d : Option Effects) (a b : State) → are_effects_less c d ≡ true → IsUnder t more a b → AreCovered (node_gives g m p c a) (node_gives f m p d b)
+    node_up : (p : Place) (c d : Option Effects) (a b : State) → are_effects_less c d ≡ true → IsUnder t more a b
+        → AreCovered (node_gives g m p c a) (node_gives f m p d b)
     node_up p c d a b less under =
         states_covered t more (g.narrow p a) (f.narrow p b) (act_gives g m p (m.act p) c) (act_gives f m p (m.act p) d)
         (fine.narrow p a under.lower) (coarse.narrow p b under.upper) (law.narrow p a b under.lower under.upper under.up)
@@ -228,21 +240,25 @@ module _ (t more : List ℕ) (m : Program) (entry_up : is_state_at_most entry_st
     pub record IsBelow (x y : Facts) : Type 0 where
       pub fact : (k : Key) (v : Fact) → x k ≡ Some v → (u : Fact) × (y k ≡ Some u) × (is_at_most v u ≡ true)
 
-    state_less : (o p : Option Fact) → ((v : Fact) → o ≡ Some v → (u : Fact) × (p ≡ Some u) × (is_at_most v u ≡ true)) → is_less (state_in o) (state_in p) ≡ true
+    state_less : (o p : Option Fact) → ((v : Fact) → o ≡ Some v → (u : Fact) × (p ≡ Some u) × (is_at_most v u ≡ true))
+        → is_less (state_in o) (state_in p) ≡ true
     state_less None p more = refl
-    state_less (Some v) p more = let u = more v refl in subst (λ (q : Option Fact). is_less (state_in (Some v)) (state_in q) ≡ true) (sym u.1) (at v u.0 u.2) where
-      at : (v u : Fact) → is_at_most v u ≡ true → is_less (state_in (Some v)) (state_in (Some u)) ≡ true
-      at (fact.State a) (fact.State b) up = up
-      at (fact.State a) _ up = absurd (false≢true up)
-      at _ u up = refl
+    state_less (Some v) p more = let u =
+        more v refl in subst (λ (q : Option Fact). is_less (state_in (Some v)) (state_in q) ≡ true) (sym u.1) (at v u.0 u.2) where
+          at : (v u : Fact) → is_at_most v u ≡ true → is_less (state_in (Some v)) (state_in (Some u)) ≡ true
+          at (fact.State a) (fact.State b) up = up
+          at (fact.State a) _ up = absurd (false≢true up)
+          at _ u up = refl
 
-    effects_less : (o p : Option Fact) → ((v : Fact) → o ≡ Some v → (u : Fact) × (p ≡ Some u) × (is_at_most v u ≡ true)) → are_effects_less (effects_in o) (effects_in p) ≡ true
+    effects_less : (o p : Option Fact) → ((v : Fact) → o ≡ Some v → (u : Fact) × (p ≡ Some u) × (is_at_most v u ≡ true))
+        → are_effects_less (effects_in o) (effects_in p) ≡ true
     effects_less None p more = refl
-    effects_less (Some v) p more = let u = more v refl in subst (λ (q : Option Fact). are_effects_less (effects_in (Some v)) (effects_in q) ≡ true) (sym u.1) (at v u.0 u.2) where
-      at : (v u : Fact) → is_at_most v u ≡ true → are_effects_less (effects_in (Some v)) (effects_in (Some u)) ≡ true
-      at (fact.Sum a) (fact.Sum b) up = up
-      at (fact.Sum a) _ up = absurd (false≢true up)
-      at _ u up = refl
+    effects_less (Some v) p more = let u =
+        more v refl in subst (λ (q : Option Fact). are_effects_less (effects_in (Some v)) (effects_in q) ≡ true) (sym u.1) (at v u.0 u.2) where
+          at : (v u : Fact) → is_at_most v u ≡ true → are_effects_less (effects_in (Some v)) (effects_in (Some u)) ≡ true
+          at (fact.Sum a) (fact.Sum b) up = up
+          at (fact.Sum a) _ up = absurd (false≢true up)
+          at _ u up = refl
 
     pub state_over : (w : List ℕ) (k : Key) (o : Option Fact) → ((v : Fact) → o ≡ Some v → fits w k v ≡ true) → is_over_or_none w (state_in o) ≡ true
     state_over w k None fit = refl
@@ -259,7 +275,8 @@ module _ (t more : List ℕ) (m : Program) (entry_up : is_state_at_most entry_st
     pub gives_rise : (x y : Facts) → ((k : Key) (v : Fact) → x k ≡ Some v → fits more k v ≡ true) → ((k : Key) (v : Fact) → y k ≡ Some v → fits t k v ≡ true)
         → IsBelow x y → (k : Key) → AreCovered (gives g m k x) (gives f m k y)
     gives_rise x y lower upper below (key.Node p) =
-        states_covered t more (state_in (x (key.Node p))) (state_in (y (key.Node p))) (node_gives g m p (callee_of p.next x)) (node_gives f m p (callee_of p.next y))
+        states_covered t more (state_in (x (key.Node p))) (state_in (y (key.Node p))) (node_gives g m p (callee_of p.next x))
+        (node_gives f m p (callee_of p.next y))
         (state_over more (key.Node p) (x (key.Node p)) (lower (key.Node p))) (state_over t (key.Node p) (y (key.Node p)) (upper (key.Node p)))
         (state_less (x (key.Node p)) (y (key.Node p)) (below.fact (key.Node p)))
         (λ a b up. node_up p (callee_of p.next x) (callee_of p.next y) a b (callee_less p.next x y below) up)

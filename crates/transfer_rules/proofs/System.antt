@@ -19,7 +19,8 @@ use Rattle.abs_state.specs.declared.key.Key.{Key}
 use Rattle.flow_system.specs.Laws.{HasLimits, JoinsLeast, KeepsFit, LooksAtReads, OrdersFacts, OrdersKeys}
 use Rattle.flow_system.specs.State.{AllFit, ContainsPiece, IsBelow, IsCovered}
 use Rattle.transfer_rules.proofs.FactKinds.{fitting, from_fitting}
-use Rattle.transfer_rules.proofs.FactOrder.{arguments_in, facts_both, facts_limit, facts_onward, facts_rise, from_arguments, join_first, join_fits, join_least, join_second, same_fact}
+use Rattle.transfer_rules.proofs.FactOrder.{arguments_in, facts_both, facts_limit, facts_onward, facts_rise, from_arguments, join_first, join_fits}
+use Rattle.transfer_rules.proofs.FactOrder.{join_least, join_second, same_fact}
 use Rattle.transfer_rules.proofs.Fitting.{IsFit, gives_fit, starts_fit}
 use Rattle.transfer_rules.proofs.Lengths.{counted_gives, gives_looks, gives_short, reads_itself, reads_short}
 use Rattle.transfer_rules.proofs.PieceLists.{AreCovered, IsAbove}
@@ -41,11 +42,14 @@ covered_in t f m ps qs are k v has =
     record { fact = is.fact; listed = is.listed; above = is.above }
 
 -- what is below in a system is below
-below_in : (t more : List ℕ) (f g : Family) (m : Program) (coarse : IsLawfulFamily t m.widest f) (fine : IsLawfulFamily more m.widest g) (law : IsFinerFamily t more f g)
+below_in : (t more : List ℕ) (f g : Family) (m : Program) (coarse : IsLawfulFamily t m.widest f) (fine : IsLawfulFamily more m.widest g)
+    (law : IsFinerFamily t more f g)
     (up : is_state_at_most entry_state entry_state ≡ true) (x y : Key → Option Fact)
     → ((k : Key) (v : Fact) → x k ≡ Some v → ContainsPiece (rules_of t f m) y k v) → rising.IsBelow t more m up f g coarse fine law x y
 below_in t more f g m coarse fine law up x y below = record { fact = λ k v is. let c = below k v is in (c.fact, c.found, c.above) }
 
+-- over functions that keep what a family has to keep, the rules of a program are a lawful system: what a key gives fits,
+-- is short and over lesser facts no more, and looks only at what is read; facts are ordered and joined, and have ranks
 pub rules_are_lawful : RulesAreLawful
 rules_are_lawful t f m family finer program =
     record { keys = keys; fit = fit; order = order; least = least; monotone = monotone; looks = looks; limits = limits }
@@ -119,10 +123,12 @@ fact_stays t more (fact.Args list) are over =
 fact_stays t more (fact.Sum e) are over = over
 fact_stays t more fact.Mark are over = over
 
+-- what fits over some thresholds fits over more
 pub fit_stays : (t more : List ℕ) (k : Key) (v : Fact) → AreMore t more → fits t k v ≡ true → fits more k v ≡ true
 fit_stays t more k v are is =
     let a = fitting t k v is in from_fitting more k v (record { kind = a.kind; depths = a.depths; over = fact_stays t more v are a.over })
 
+-- over more thresholds the same rules make a finer system: what fits still fits, and each key gives no more
 pub more_thresholds_are_finer : MoreThresholdsAreFiner
 more_thresholds_are_finer t more f g m coarse fine law program =
     record { fits = λ k v is. fit_stays t more k v law.thresholds is; order = λ v w up. up; starts = begins; gives = given }

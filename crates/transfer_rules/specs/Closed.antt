@@ -17,7 +17,8 @@ use Rattle.abs_state.specs.declared.key.Next.TheVariants.{At, Into, Back}
 use Rattle.abs_state.specs.declared.key.Place.{Place}
 use Rattle.flow_system.specs.State.{ContainsPiece, IsClosed}
 use Rattle.transfer_rules.specs.Family.{Family, Program}
-use Rattle.transfer_rules.specs.Give.{Facts, arguments, behind, beside, callee_of, delayed, entered, entered_with, entry_of, here, is_behind, is_known, mask_of, onward, place}
+use Rattle.transfer_rules.specs.Give.{Facts, arguments, behind, beside, callee_of, delayed, entered, entered_with, entry_of, here, is_behind}
+use Rattle.transfer_rules.specs.Give.{is_known, mask_of, onward, place}
 use Rattle.transfer_rules.specs.Lawful.{rules_of}
 use Rattle.transfer_rules.specs.declared.act.Act.TheVariants.{Acts, Open}
 use Rattle.transfer_rules.specs.declared.act.Aim.{Aim}

@@ -1,12 +1,14 @@
 -- The candidates of computed transfers, as functions: they are the functions whose entries stand in words, and the labels in
 -- the extent of an address.
-use Rattle.std.proofs.Common.{◌≡◌, ℕ, zero, suc, ◌+◌, ◌-◌, ◌%◌, ◌^◌, ◌<◌, ◌≤◌, ◌&&◌, inl, inr, Bool, true, false, eqb, List, [], ◌∷◌, Option, Some, None, Contains, Decides, refl, sym, ap, subst, ◌∙◌, arith, eq-eqb, ⊎_elim}
+use Rattle.std.proofs.Common.{◌≡◌, ℕ, zero, suc, ◌+◌, ◌-◌, ◌%◌, ◌^◌, ◌<◌, ◌≤◌, ◌&&◌, inl, inr, Bool, true, false, eqb, List, [], ◌∷◌, Option, Some}
+use Rattle.std.proofs.Common.{None, Contains, Decides, refl, sym, ap, subst, ◌∙◌, arith, eq-eqb, ⊎_elim}
 use Rattle.std.specs.Prelude.{◌==◌, not, nat_lt, nat_le, if◌then◌else◌}
 use Rattle.std.specs.List.{All, list_all, list_any, range_with_len}
 use Rattle.std.specs.List.Sorted.{IsStrictlyIncreasing}
 use Rattle.std.specs.Option.{option_map}
 use Rattle.std.specs.Set.{is_member}
-use Rattle.std.proofs.lemmas.Bool.{and_parts, and_from, or_cases, or_left, or_right, cases_Bool, cases_lt, eqb-true, leb-true, ltb-true, le-leb, lt-ltb, false≢true}
+use Rattle.std.proofs.lemmas.Bool.{and_parts, and_from, or_cases, or_left, or_right, cases_Bool, cases_lt, eqb-true, leb-true, ltb-true, le-leb}
+use Rattle.std.proofs.lemmas.Bool.{lt-ltb, false≢true}
 use Rattle.std.proofs.lemmas.List.Elements.{All-contains}
 use Rattle.bt_base.proofs.RisingLists.{same_rising, first_there, rest_there}
 use Rattle.bt_image.proofs.LeastLemmas.{first_of-found}
@@ -60,7 +62,8 @@ is_word_some a (Some w) is = ap Some (eqb-true w a is)
 stands_from : (test : Section → Bool) (image : List ℕ) (a : ℕ) → stands_in_word test image a ≡ true → Stands test image a
 unfolding stands_in_word
 stands_from test image a any =
-    let k = any_is (λ k. list_any (λ i. is_word a (word_of test image ((section_at image k).address + i))) (range_with_len 0 (section_at image k).size)) 0 (section_count image) any in
+    let k = any_is (λ k. list_any (λ i. is_word a (word_of test image ((section_at image k).address + i)))
+    (range_with_len 0 (section_at image k).size)) 0 (section_count image) any in
     let i = any_is (λ i. is_word a (word_of test image ((section_at image k.number).address + i))) 0 (section_at image k.number).size k.passes in
     record {
       place = (section_at image k.number).address + i.number;
@@ -115,13 +118,15 @@ from_stands test image place a is =
     let low : s.address ≤ place = leb-true s.address place both.0 in
     let high : place + 4 ≤ s.address + s.size = leb-true (place + 4) (s.address + s.size) both.1 in
     let at : s.address + (place - s.address) ≡ place = omega arith in
-    any_from (λ k. list_any (λ i. is_word a (word_of test image ((section_at image k).address + i))) (range_with_len 0 (section_at image k).size)) 0 (section_count image)
+    any_from (λ k. list_any (λ i. is_word a (word_of test image ((section_at image k).address + i))) (range_with_len 0 (section_at image k).size)) 0
+    (section_count image)
     h.number (omega arith) (omega (arith, h.within))
     (any_from (λ i. is_word a (word_of test image (s.address + i))) 0 s.size (place - s.address) (omega arith) (omega arith)
     (word_is a (word_of test image (s.address + (place - s.address))) (ap (word_of test image) at ∙ is)))
 
 -- the functions whose entries stand in words
-pub taken_is : (image xs : List ℕ) → All (λ a. a < 2 ^ 32) xs → Rise xs → All (IsTaken image) xs → ((a : ℕ) → IsTaken image a → Contains xs a) → xs ≡ taken_functions image
+pub taken_is : (image xs : List ℕ) → All (λ a. a < 2 ^ 32) xs → Rise xs → All (IsTaken image) xs → ((a : ℕ) → IsTaken image a → Contains xs a)
+    → xs ≡ taken_functions image
 unfolding taken_functions
 taken_is image xs fit rise each all =
     same_rising xs (words_below (2 ^ 32) (λ a. is_member eqb (functions image) a && stands_in_word is_loaded image a)) (steps_from_rise xs rise)
@@ -160,11 +165,13 @@ no_part pc a f first second =
 
 parted_first : (pc a f : ℕ) → not (parts pc a f) ≡ true → pc < f → f ≤ a → ⊥
 parted_first pc a f none low high =
-    false≢true (sym (ap not (or_left (nat_lt pc f && nat_le f a) (nat_lt a f && nat_le f pc) (and_from (nat_lt pc f) (nat_le f a) (lt-ltb pc f low) (le-leb f a high)))) ∙ none)
+    false≢true (sym (ap not (or_left (nat_lt pc f && nat_le f a) (nat_lt a f && nat_le f pc)
+    (and_from (nat_lt pc f) (nat_le f a) (lt-ltb pc f low) (le-leb f a high)))) ∙ none)
 
 parted_second : (pc a f : ℕ) → not (parts pc a f) ≡ true → a < f → f ≤ pc → ⊥
 parted_second pc a f none low high =
-    false≢true (sym (ap not (or_right (nat_lt pc f && nat_le f a) (nat_lt a f && nat_le f pc) (and_from (nat_lt a f) (nat_le f pc) (lt-ltb a f low) (le-leb f pc high)))) ∙ none)
+    false≢true (sym (ap not (or_right (nat_lt pc f && nat_le f a) (nat_lt a f && nat_le f pc)
+    (and_from (nat_lt a f) (nat_le f pc) (lt-ltb a f low) (le-leb f pc high)))) ∙ none)
 
 all_from : (p : ℕ → Bool) (xs : List ℕ) → ((a : ℕ) → Contains xs a → p a ≡ true) → list_all p xs ≡ true
 all_from p [] each = refl
@@ -218,6 +225,7 @@ module _ (image : List ℕ) (pc low high : ℕ) (is : IsExtent image pc low high
               (λ there. absurd (parted_first pc a high (apart a high near there) is.around.1 more)) is.ends
         ]
 
+  -- the labels between the ends of an extent are those near its address
   pub labels_are : (xs : List ℕ) → is_code image pc ≡ true → All (λ a. a < 2 ^ 32) xs → Rise xs → All (IsLabelWithin image low high) xs
       → ((a : ℕ) → IsLabelWithin image low high a → Contains xs a) → xs ≡ labels_near image pc
   unfolding labels_near is_near
@@ -240,6 +248,7 @@ empty_list : (xs : List ℕ) → ((a : ℕ) → Contains xs a → ⊥) → [] �
 empty_list [] none = refl
 empty_list (x ∷ xs) none = absurd (none x (first_there x xs))
 
+-- an address that is no code has no labels near it
 pub no_labels : (image : List ℕ) (pc : ℕ) → is_code image pc ≡ false → [] ≡ labels_near image pc
 unfolding labels_near is_near
 no_labels image pc none =

@@ -1,5 +1,6 @@
 -- What the code comes to, step by step.
-use Rattle.std.proofs.Common.{◌≡◌, ℕ, suc, ◌+◌, ◌-◌, ◌^◌, ◌<◌, ◌≤◌, Bool, true, false, List, [], ◌∷◌, ◌++◌, length, get_or, drop, Option, Some, None, refl, sym, ap, subst, ◌∙◌, arith, append_assoc, append-nil}
+use Rattle.std.proofs.Common.{◌≡◌, ℕ, suc, ◌+◌, ◌-◌, ◌^◌, ◌<◌, ◌≤◌, Bool, true, false, List, [], ◌∷◌, ◌++◌, length, get_or, drop, Option, Some, None}
+use Rattle.std.proofs.Common.{refl, sym, ap, subst, ◌∙◌, arith, append_assoc, append-nil}
 use Rattle.std.specs.Prelude.{ℤ, filter, if◌then◌else◌}
 use Rattle.std.specs.List.{range_with_len}
 use Rattle.std.proofs.lemmas.List.Elements.{All-contains}
@@ -33,9 +34,11 @@ use Rattle.transfer_values.specs.declared.stepping.Outcome.{Outcome}
 use Rattle.transfer_values.proofs.PartLemmas.{cell_over, left_over, some_over}
 use Rattle.transfer_values.proofs.SourceLemmas.{operand_over, source_over, AreReadIn, read_in, are_read}
 
+-- a cell is over the thresholds
 pub cell_is_over : (t : List ℕ) (s : State) (c : ℕ) → IsThresholds t → is_state_over t s ≡ true → IsOver t (cell_at s c)
 cell_is_over t s c is fits = (over_decides t (cell_at s c)).0 (cell_over t s c is fits)
 
+-- an operand is over the thresholds
 pub operand_is_over : (t : List ℕ) (s : State) (r : Right) → IsThresholds t → is_state_over t s ≡ true → IsOver t (operand s r)
 operand_is_over t s r is fits = (over_decides t (operand s r)).0 (operand_over t s r is fits)
 
@@ -47,7 +50,8 @@ map_same (Some ws) = refl
 pub words_begin : (image addresses : List ℕ) → option_map (λ ws. [] ++ ws) (words_at image (drop 0 addresses)) ≡ words_at image addresses
 words_begin image addresses = map_same (words_at image addresses)
 
-map_more : (read : List ℕ) (w : ℕ) (o : Option (List ℕ)) → option_map (λ ws. (read ++ w ∷ []) ++ ws) o ≡ option_map (λ ws. read ++ ws) (option_map (λ ws. w ∷ ws) o)
+map_more : (read : List ℕ) (w : ℕ) (o : Option (List ℕ))
+    → option_map (λ ws. (read ++ w ∷ []) ++ ws) o ≡ option_map (λ ws. read ++ ws) (option_map (λ ws. w ∷ ws) o)
 map_more read w None = refl
 map_more read w (Some ws) = ap Some (append_assoc read (w ∷ []) ws)
 
@@ -93,20 +97,24 @@ unfolding loaded
 loaded_words t image words members addresses slice v is same kept also =
     ap (loaded_from t image) (also ∙ kept ∙ ap (filter is_aligned) same) ∙ ap (loaded t image) (sym is)
 
+-- a load from a range of addresses is any word
 pub loaded_range : (t image : List ℕ) (lo hi : ℤ) (v u : Value) → v ≡ Range lo hi → u ≡ top → Some u ≡ loaded t image v
 unfolding loaded
 loaded_range t image lo hi v u is same = ap Some same ∙ ap (loaded t image) (sym is)
 
+-- a load from the return address is any word
 pub loaded_ret : (t image : List ℕ) (v u : Value) → v ≡ Ret → u ≡ top → Some u ≡ loaded t image v
 unfolding loaded
 loaded_ret t image v u is same = ap Some same ∙ ap (loaded t image) (sym is)
 
 -- what a source writes
 module _ (t image : List ℕ) (s : State) (source : Source) (u : Value) where
+  -- a source of anything is any word
   pub source_anything : source ≡ Anything → u ≡ top → Some u ≡ source_value t image s source
   unfolding source_value
   source_anything is same = ap Some same ∙ ap (source_value t image s) (sym is)
 
+  -- a source of a word is that word
   pub source_exactly : (w : ℕ) → source ≡ Exactly w → u ≡ Words (w ∷ []) → IsOver t u → Some u ≡ source_value t image s source
   unfolding source_value
   source_exactly w is same over =
@@ -115,20 +123,24 @@ module _ (t image : List ℕ) (s : State) (source : Source) (u : Value) where
       let whole : w ≡ word_of w = omega arith in
       ap Some same ∙ ap (λ (n : ℕ). Some (Words (n ∷ []))) whole ∙ ap (source_value t image s) (sym is)
 
+  -- a source of a range is the range
   pub source_ranged : (lo hi : ℤ) → source ≡ Ranged lo hi → u ≡ ranged t lo hi → Some u ≡ source_value t image s source
   unfolding source_value
   source_ranged lo hi is same = ap Some same ∙ ap (source_value t image s) (sym is)
 
+  -- a source of an operation is its result
   pub source_applied : (op : Op) (left right : Right) → source ≡ Applied op left right → u ≡ apply t op (operand s left) (operand s right)
       → Some u ≡ source_value t image s source
   unfolding source_value
   source_applied op left right is same = ap Some same ∙ ap (source_value t image s) (sym is)
 
+  -- a loaded source is what is loaded from the sum
   pub source_loaded : (left right : Right) → source ≡ Loaded left right → u ≡ apply t Add (operand s left) (operand s right)
       → loaded t image u ≡ source_value t image s source
   unfolding source_value
   source_loaded left right is same = ap (loaded t image) same ∙ ap (source_value t image s) (sym is)
 
+-- what a source comes to is a value over the thresholds
 pub source_is_value : (t image : List ℕ) (s : State) (source : Source) (o : Option Value) (v : Value) → IsThresholds t → is_state_over t s ≡ true
     → o ≡ source_value t image s source → o ≡ Some v → IsValue v
 source_is_value t image s source o v is fits here some =
@@ -145,6 +157,7 @@ if_false false s o is yes_it_is = is
 
 module _ (t image : List ℕ) (step : Step) (s : State) (o : Outcome) (b : Bool) (u : State)
     (first : (v : State) → outcome o v ≡ written t image s step.first v) (wrote : (if b then Some u else None) ≡ outcome o s) where
+  -- a step stops where its first write has no value
   pub stops_first : b ≡ false → None ≡ stepped t image step s
   unfolding stepped
   stops_first none =
@@ -159,11 +172,13 @@ module _ (t image : List ℕ) (step : Step) (s : State) (o : Outcome) (b : Bool)
 
   module _ (p : Outcome) (d : Bool) (x : State) (some : b ≡ true)
       (second : (v : State) → outcome p v ≡ written t image s step.second v) (also : (if d then Some x else None) ≡ outcome p u) where
+    -- a step stops where its second write has no value
     pub stops_second : d ≡ false → None ≡ stepped t image step s
     stops_second none =
         let e : None ≡ written t image s step.second u = if_false d x (outcome p u) also none ∙ second u in
         ap (option_map (flagged step.flags)) e ∙ behind_first some
 
+    -- a step goes on where both writes have values
     pub goes_on : (y : State) → d ≡ true → y ≡ flagged step.flags x → Some y ≡ stepped t image step s
     goes_on y more is =
         let e : Some x ≡ written t image s step.second u = if_true d x (outcome p u) also more ∙ second u in
@@ -191,22 +206,27 @@ from_end : (t : List ℕ) (list : List BoundAssertion) (p : Place) (r : ℕ) (s 
 unfolding narrowed_from
 from_end t list p r s past = let e : 32 - r ≡ 0 = omega arith in ap (λ (n : ℕ). narrowed_by t list p (range_with_len r n) s) e
 
+-- the ranges of one register more are met
 pub narrow_more : (t : List ℕ) (list : List BoundAssertion) (p : Place) (r c : ℕ) (o : Option (ℤ × ℤ)) (b : Bool) (s u all : State) → r < 32
     → o ≡ range list p.pc r → c ≡ cell_of p.depth r → (if b then Some u else None) ≡ narrowed_to t o c s → b ≡ true
     → narrowed_from t list p r s ≡ narrowed t list p all → narrowed_from t list p (r + 1) u ≡ narrowed t list p all
 narrow_more t list p r c o b s u all low asserted cell is some before =
     ap (option_and_then (narrowed_from t list p (r + 1)))
-    (if_true b u (narrowed_to t o c s) is some ∙ ap (λ (x : Option (ℤ × ℤ)). narrowed_to t x c s) asserted ∙ ap (λ (k : ℕ). narrowed_to t (range list p.pc r) k s) cell)
+    (if_true b u (narrowed_to t o c s) is some ∙ ap (λ (x : Option (ℤ × ℤ)). narrowed_to t x c s) asserted
+    ∙ ap (λ (k : ℕ). narrowed_to t (range list p.pc r) k s) cell)
     ∙ sym (from_less t list p r s low) ∙ before
 
+-- the state stops where a register meets no word of its range
 pub narrow_stops : (t : List ℕ) (list : List BoundAssertion) (p : Place) (r c : ℕ) (o : Option (ℤ × ℤ)) (b : Bool) (s u all : State) → r < 32
     → o ≡ range list p.pc r → c ≡ cell_of p.depth r → (if b then Some u else None) ≡ narrowed_to t o c s → b ≡ false
     → narrowed_from t list p r s ≡ narrowed t list p all → None ≡ narrowed t list p all
 narrow_stops t list p r c o b s u all low asserted cell is none before =
     ap (option_and_then (narrowed_from t list p (r + 1)))
-    (if_false b u (narrowed_to t o c s) is none ∙ ap (λ (x : Option (ℤ × ℤ)). narrowed_to t x c s) asserted ∙ ap (λ (k : ℕ). narrowed_to t (range list p.pc r) k s) cell)
+    (if_false b u (narrowed_to t o c s) is none ∙ ap (λ (x : Option (ℤ × ℤ)). narrowed_to t x c s) asserted
+    ∙ ap (λ (k : ℕ). narrowed_to t (range list p.pc r) k s) cell)
     ∙ sym (from_less t list p r s low) ∙ before
 
+-- behind the last register nothing more is narrowed
 pub narrow_ends : (t : List ℕ) (list : List BoundAssertion) (p : Place) (r : ℕ) (s all : State) → 32 ≤ r
     → narrowed_from t list p r s ≡ narrowed t list p all → Some s ≡ narrowed t list p all
 narrow_ends t list p r s all past before = sym (from_end t list p r s past) ∙ before

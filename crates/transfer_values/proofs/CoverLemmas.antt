@@ -69,6 +69,7 @@ between t image s lo hi w ra is fits address in_range = by_test (int_le lo hi) w
       w ra fits address in_range
   by_test false = top_has w ra
 
+-- what is written has the word that is written
 pub sources_cover : SourcesCover
 unfolding source_value
 sources_cover = record {
@@ -83,12 +84,14 @@ sources_cover = record {
 
 -- where a transfer goes
 among_has : (image : List ℕ) (v : Value) (o : Option (List ℕ)) (others : List ℕ) (a ra : ℕ) → a < 2 ^ 32 → ra < 2 ^ 32 → Has v a ra → a % 4 ≡ 0
-    → IfSome o (λ to. Contains to a × (is_code image a ≡ true)) → (targets_among image v o others).whole ≡ true → Contains (targets_among image v o others).list a
+    → IfSome o (λ to. Contains to a × (is_code image a ≡ true)) → (targets_among image v o others).whole ≡ true
+    → Contains (targets_among image v o others).list a
 among_has image v (Some to) others a ra fits address has aligned listed_there whole =
     is_in_list image v to a (record { word = fits; candidate = listed_there.0; code = listed_there.1; may = may_from_has v a ra address has })
 among_has image v None others a ra fits address has aligned none whole =
     ⊎_elim (λ no. cc) (λ each. each a fits aligned (may_from_has v a ra address has)) ((targets_are_exact.whole image v others false).0 whole)
 
+-- where a computed transfer goes nowhere else, its targets have the address to which it goes
 pub targets_cover : TargetsCover
 unfolding resolved
 targets_cover t image list pc s left right kind x y ra have aligned listed_there whole =

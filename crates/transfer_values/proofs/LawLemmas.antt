@@ -5,9 +5,11 @@ use Rattle.transfer_values.proofs.NarrowLemmas.{narrowed_over, narrowed_falls}
 use Rattle.transfer_values.proofs.StepLemmas.{stepped_over, stepped_falls}
 use Rattle.transfer_values.proofs.TestLemmas.{tested_over, tested_falls}
 
+-- what is made of a state that may stand where there are thresholds may stand there
 pub states_stay_over : StatesStayOver
 states_stay_over = record { narrowed = narrowed_over; stepped = stepped_over; tested = tested_over }
 
+-- of a lesser state, and over more thresholds, what is made of it is at most what it was
 pub states_fall : StatesFall
 states_fall = record {
   narrowed = λ t more list p a b is is_more in_more lesser greater up. narrowed_falls t more list p a b is is_more in_more up;
@@ -15,6 +17,7 @@ states_fall = record {
   tested = tested_falls;
 }
 
+-- the functions over thresholds, of an image and assertions, are lawful, and over more thresholds they give no more
 pub families_are_lawful : FamiliesAreLawful
 families_are_lawful = record {
   lawful = λ t image list is. record {

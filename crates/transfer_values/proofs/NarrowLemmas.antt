@@ -34,7 +34,8 @@ by_over : (t : List ℕ) (list : List BoundAssertion) (p : Place) (registers : L
     → is_left_over t (narrowed_by t list p registers s) ≡ true
 by_over t list p [] s is fits = fits
 by_over t list p (r ∷ rest) s is fits =
-    then_over t (narrowed_to t (range list p.pc r) (cell_of p.depth r) s) (narrowed_by t list p rest) (to_over t (range list p.pc r) (cell_of p.depth r) s is fits)
+    then_over t (narrowed_to t (range list p.pc r) (cell_of p.depth r) s) (narrowed_by t list p rest)
+    (to_over t (range list p.pc r) (cell_of p.depth r) s is fits)
     (λ u made over. by_over t list p rest u is over)
 
 by_falls : (t more : List ℕ) (list : List BoundAssertion) (p : Place) (registers : List ℕ) (a b : State) → IsThresholds t → IsThresholds more → AreMore t more
@@ -46,11 +47,13 @@ by_falls t more list p (r ∷ rest) a b is is_more in_more up =
     (to_falls t more (range list p.pc r) (cell_of p.depth r) a b is is_more in_more up)
     (λ c d made also less. by_falls t more list p rest c d is is_more in_more less)
 
+-- what assertions leave may stand where the state may
 pub narrowed_over : (t : List ℕ) (list : List BoundAssertion) (p : Place) (s : State) → IsThresholds t → is_state_over t s ≡ true
     → is_left_over t (narrowed t list p s) ≡ true
 unfolding narrowed
 narrowed_over t list p s is fits = by_over t list p (range_with_len 1 31) s is fits
 
+-- of a lesser state, over more thresholds, assertions leave less
 pub narrowed_falls : (t more : List ℕ) (list : List BoundAssertion) (p : Place) (a b : State) → IsThresholds t → IsThresholds more → AreMore t more
     → is_at_most a b ≡ true → is_less (narrowed more list p a) (narrowed t list p b) ≡ true
 unfolding narrowed

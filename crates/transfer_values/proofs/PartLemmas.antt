@@ -23,12 +23,15 @@ use Rattle.abs_state.specs.declared.flags.Right.TheVariants.{Cell, Word}
 use Rattle.transfer_rules.specs.Lawful.{is_over_or_none as is_left_over, is_less}
 use Rattle.transfer_values.specs.Test.{with_part, left_with}
 
+-- any word is over the thresholds
 pub top_over : (t : List ℕ) → IsThresholds t → is_over t top ≡ true
 top_over t is = (over_decides t top).1 (any_over t is)
 
+-- a value is at most itself
 pub same_value : (t : List ℕ) (v : Value) → is_over t v ≡ true → is_value_at_most v v ≡ true
 same_value t v over = the_order_is_one.same v (is_over-value t v over)
 
+-- each value is at most any word
 pub under_top : (t : List ℕ) (v : Value) → is_over t v ≡ true → is_value_at_most v top ≡ true
 under_top t v over = the_order_is_one.under_top v (is_over-value t v over)
 
@@ -53,6 +56,7 @@ any_cell_up t vs us c is up =
           subst (λ (v : Value). is_value_at_most v (cell_in us c) ≡ true) (sym past) (subst (λ (v : Value). is_value_at_most top v ≡ true) (sym also) here))
     ]
 
+-- a greater state has greater cells
 pub cell_up : (t : List ℕ) (a b : State) (c : ℕ) → IsThresholds t → is_at_most a b ≡ true → is_value_at_most (cell_at a c) (cell_at b c) ≡ true
 cell_up t a b c is up = any_cell_up t a.cells b.cells c is (and_parts (are_at_most a.cells b.cells) (flags_at_most a.flags b.flags) up).0
 
@@ -69,6 +73,7 @@ other_value cells c k v apart = by_test (c == 0) where
   by_test true = refl
   by_test false = get_or-set_other cells c k v top apart
 
+-- a write leaves cell 0
 pub first_value : (cells : List Value) (c : ℕ) (v : Value) → cell_in (with_value cells c v) 0 ≡ cell_in cells 0
 first_value cells c v =
     elim (cases_eq c 0) [
@@ -85,14 +90,16 @@ written_cases cells c k v low =
       | inr other ↦ inr (other_value cells c k v other)
     ]
   where
-    by_test : (b : Bool) → k ≡ c → (cell_in (if b then cells else slice_set cells c v) k ≡ v) ⊎ (cell_in (if b then cells else slice_set cells c v) k ≡ cell_in cells k)
+    by_test : (b : Bool) → k ≡ c → (cell_in (if b then cells else slice_set cells c v) k ≡ v)
+        ⊎ (cell_in (if b then cells else slice_set cells c v) k ≡ cell_in cells k)
     by_test true same = inr refl
     by_test false same =
         let within : c < length cells = omega arith in
         inl (ap (λ (n : ℕ). cell_in (slice_set cells c v) n) same ∙ get_or-set_same cells c v top within)
 
 -- flags may speak of a cell that has less, where it isn't the return address
-name_part : (cells : List Value) (c k : ℕ) (v : Value) → length cells ≡ 48 → is_ret v ≡ false → may_name cells k ≡ true → may_name (with_value cells c v) k ≡ true
+name_part : (cells : List Value) (c k : ℕ) (v : Value) → length cells ≡ 48 → is_ret v ≡ false → may_name cells k ≡ true
+    → may_name (with_value cells c v) k ≡ true
 name_part cells c k v size words may =
     let parts = and_parts (nat_lt k 48) (not (is_ret (cell_in cells k))) may in
     let low : k < 48 = ltb-true k 48 parts.0 in
@@ -137,6 +144,7 @@ part_up a b c v u up here =
     (writes_keep_order.cell a b c v u up here) in
     and_from (are_at_most (with_value a.cells c v) (with_value b.cells c u)) (flags_at_most a.flags b.flags) cells.0 parts.1
 
+-- a cell written with its own value stays
 pub same_written : (cells : List Value) (c : ℕ) → with_value cells c (cell_in cells c) ≡ cells
 same_written cells c = by_test (c == 0) where
   by_test : (b : Bool) → (if b then cells else slice_set cells c (cell_in cells c)) ≡ cells
@@ -155,12 +163,14 @@ pub left_over : (t : List ℕ) (s : State) (c : ℕ) (r : Option Value) → is_s
 left_over t s c None fits over words = refl
 left_over t s c (Some v) fits over words = part_over t s c v fits over words
 
+-- a lesser value written to a lesser state leaves less
 pub left_falls : (a b : State) (c : ℕ) (q r : Option Value) → is_at_most a b ≡ true → is_value_less q r ≡ true
     → is_less (left_with c a q) (left_with c b r) ≡ true
 left_falls a b c None r up less = refl
 left_falls a b c (Some v) None up less = less
 left_falls a b c (Some v) (Some u) up less = part_up a b c v u up less
 
+-- what a cell is narrowed to leaves at most the state
 pub left_under : (a b : State) (c : ℕ) (q : Option Value) → is_at_most a b ≡ true → is_value_less q (Some (cell_at b c)) ≡ true
     → is_less (left_with c a q) (Some b) ≡ true
 left_under a b c None up less = refl
@@ -172,6 +182,7 @@ pub then_over : (t : List ℕ) (o : Option State) (f : State → Option State) �
 then_over t None f fits each = refl
 then_over t (Some s) f fits each = each s refl fits
 
+-- what is made of less is less
 pub then_falls : (o p : Option State) (f g : State → Option State) → is_less o p ≡ true
     → ((a b : State) → o ≡ Some a → p ≡ Some b → is_at_most a b ≡ true → is_less (f a) (g b) ≡ true)
     → is_less (option_and_then f o) (option_and_then g p) ≡ true
@@ -179,10 +190,12 @@ then_falls None p f g less each = refl
 then_falls (Some a) None f g less each = absurd (true≢false (sym less))
 then_falls (Some a) (Some b) f g less each = each a b refl refl less
 
+-- what is made of what is left stays at most a state
 pub then_under : (o : Option State) (b : State) (f : State → Option State) → is_less o (Some b) ≡ true
     → ((a : State) → o ≡ Some a → is_at_most a b ≡ true → is_less (f a) (Some b) ≡ true) → is_less (option_and_then f o) (Some b) ≡ true
 then_under None b f less each = refl
 then_under (Some a) b f less each = each a refl less
 
+-- a state that is left may stand there
 pub some_over : (t : List ℕ) (o : Option State) (s : State) → is_left_over t o ≡ true → o ≡ Some s → is_state_over t s ≡ true
 some_over t o s over is = subst (λ (p : Option State). is_left_over t p ≡ true) is over

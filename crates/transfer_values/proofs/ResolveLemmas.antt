@@ -1,5 +1,6 @@
 -- Targets: a lesser state goes to fewer, is known sooner to go nowhere else, and none has more than the widest.
-use Rattle.std.proofs.Common.{◌≡◌, ℕ, ◌+◌, ◌^◌, ◌<◌, ◌≤◌, ◌&&◌, Bool, true, false, eqb, List, [], ◌∷◌, length, Option, Some, None, Contains, refl, sym, ap, ◌∙◌, arith, length-append}
+use Rattle.std.proofs.Common.{◌≡◌, ℕ, ◌+◌, ◌^◌, ◌<◌, ◌≤◌, ◌&&◌, Bool, true, false, eqb, List, [], ◌∷◌, length, Option, Some, None, Contains, refl}
+use Rattle.std.proofs.Common.{sym, ap, ◌∙◌, arith, length-append}
 use Rattle.std.specs.Prelude.{if◌then◌else◌}
 use Rattle.std.specs.List.{find}
 use Rattle.std.specs.Option.{option_and_then}
@@ -31,7 +32,8 @@ use Rattle.transfer_rules.specs.declared.act.Candidates.{Candidates}
 use Rattle.transfer_rules.specs.declared.act.Candidates.TheVariants.{Functions, Labels}
 use Rattle.jump_resolve.specs.Target.{targets}
 use Rattle.transfer_values.specs.Law.{TargetsFall}
-use Rattle.transfer_values.specs.Resolve.{stands_in_word, taken_functions, is_label, is_near, labels, labels_near, candidates, targets_among, resolved, to_of, all_listed, widest}
+use Rattle.transfer_values.specs.Resolve.{stands_in_word, taken_functions, is_label, is_near, labels, labels_near, candidates, targets_among}
+use Rattle.transfer_values.specs.Resolve.{resolved, to_of, all_listed, widest}
 use Rattle.transfer_values.specs.Source.{operand}
 use Rattle.transfer_values.proofs.SourceLemmas.{operand_over, operand_up}
 
@@ -59,15 +61,18 @@ listed_first : (x : BoundAssertion) (rest : List BoundAssertion) (b : Bool) (to 
     → (option_and_then (λ assertion. targets_in assertion.body) o ≡ Some to → length to ≤ length (all_listed rest))
     → option_and_then (λ assertion. targets_in assertion.body) (if b then Some x else o) ≡ Some to → length to ≤ length (all_listed (x ∷ rest))
 listed_first x rest true to o later here =
-    let both : length (all_listed (x ∷ rest)) ≡ length (to_of (targets_in x.body)) + length (all_listed rest) = length-append (to_of (targets_in x.body)) (all_listed rest) in
+    let both : length (all_listed (x ∷ rest)) ≡ length (to_of (targets_in x.body)) + length (all_listed rest) =
+    length-append (to_of (targets_in x.body)) (all_listed rest) in
     let same : length (to_of (targets_in x.body)) ≡ length to = ap (λ (o : Option (List ℕ)). length (to_of o)) here in
     omega arith
 listed_first x rest false to o later there =
-    let both : length (all_listed (x ∷ rest)) ≡ length (to_of (targets_in x.body)) + length (all_listed rest) = length-append (to_of (targets_in x.body)) (all_listed rest) in
+    let both : length (all_listed (x ∷ rest)) ≡ length (to_of (targets_in x.body)) + length (all_listed rest) =
+    length-append (to_of (targets_in x.body)) (all_listed rest) in
     let h : length to ≤ length (all_listed rest) = later there in
     omega arith
 
-listed_there : (list : List BoundAssertion) (p : BoundAssertion → Bool) (to : List ℕ) → option_and_then (λ assertion. targets_in assertion.body) (find p list) ≡ Some to
+listed_there : (list : List BoundAssertion) (p : BoundAssertion → Bool) (to : List ℕ)
+    → option_and_then (λ assertion. targets_in assertion.body) (find p list) ≡ Some to
     → length to ≤ length (all_listed list)
 listed_there [] p to is = cc
 listed_there (x ∷ rest) p to is = listed_first x rest (p x) to (find p rest) (λ later. listed_there rest p to later) is
@@ -113,7 +118,8 @@ resolved_fewer : (t more image : List ℕ) (list : List BoundAssertion) (pc : �
 unfolding resolved
 resolved_fewer t more image list pc (Fixed to) a b is is_more in_more lesser greater up x there = there
 resolved_fewer t more image list pc (Computed left right kind) a b is is_more in_more lesser greater up x there =
-    among_list image (apply more Add (operand a left) (operand a right)) (apply t Add (operand b left) (operand b right)) (listed list pc) (candidates image pc kind) x
+    among_list image (apply more Add (operand a left) (operand a right)) (apply t Add (operand b left) (operand b right)) (listed list pc)
+    (candidates image pc kind) x
     (sum_up t more a b left right is is_more in_more lesser greater up) there
 
 resolved_whole : (t more image : List ℕ) (list : List BoundAssertion) (pc : ℕ) (aim : Aim) (a b : State) → IsThresholds t → IsThresholds more → AreMore t more
@@ -122,20 +128,25 @@ resolved_whole : (t more image : List ℕ) (list : List BoundAssertion) (pc : �
 unfolding resolved
 resolved_whole t more image list pc (Fixed to) a b is is_more in_more lesser greater up known = refl
 resolved_whole t more image list pc (Computed left right kind) a b is is_more in_more lesser greater up known =
-    among_whole image (apply more Add (operand a left) (operand a right)) (apply t Add (operand b left) (operand b right)) (listed list pc) (candidates image pc kind)
+    among_whole image (apply more Add (operand a left) (operand a right)) (apply t Add (operand b left) (operand b right)) (listed list pc)
+    (candidates image pc kind)
     (sum_up t more a b left right is is_more in_more lesser greater up) known
 
-resolved_few : (t image : List ℕ) (list : List BoundAssertion) (pc : ℕ) (aim : Aim) (s : State) → length (resolved t image list pc aim s).list ≤ widest image list
+resolved_few : (t image : List ℕ) (list : List BoundAssertion) (pc : ℕ) (aim : Aim) (s : State)
+    → length (resolved t image list pc aim s).list ≤ widest image list
 unfolding resolved widest
 resolved_few t image list pc (Fixed to) s = omega arith
 resolved_few t image list pc (Computed left right kind) s =
     among_few image (apply t Add (operand s left) (operand s right)) list pc kind (listed list pc) refl
 
+-- a lesser state goes to fewer targets, and is known sooner to go nowhere else; no transfer has more targets than the
+-- widest one
 pub targets_fall : TargetsFall
 targets_fall = record { list = resolved_fewer; whole = resolved_whole; few = resolved_few }
 
 -- what the code resolves
-pub resolved_listed : (t image : List ℕ) (list : List BoundAssertion) (pc : ℕ) (aim : Aim) (left right : Right) (kind : Candidates) (s : State) (v : Value) (to : List ℕ)
+pub resolved_listed : (t image : List ℕ) (list : List BoundAssertion) (pc : ℕ) (aim : Aim) (left right : Right) (kind : Candidates) (s : State)
+    (v : Value) (to : List ℕ)
     → aim ≡ Computed left right kind → v ≡ apply t Add (operand s left) (operand s right) → Some to ≡ listed list pc
     → targets image v to true ≡ resolved t image list pc aim s
 unfolding resolved
@@ -144,7 +155,9 @@ resolved_listed t image list pc aim left right kind s v to is value there =
     ∙ ap (λ (o : Option (List ℕ)). targets_among image (apply t Add (operand s left) (operand s right)) o (candidates image pc kind)) there
     ∙ ap (λ (x : Aim). resolved t image list pc x s) (sym is)
 
-pub resolved_others : (t image : List ℕ) (list : List BoundAssertion) (pc : ℕ) (aim : Aim) (left right : Right) (kind : Candidates) (s : State) (v : Value) (others : List ℕ)
+-- where no assertion lists them, the targets are among the candidates
+pub resolved_others : (t image : List ℕ) (list : List BoundAssertion) (pc : ℕ) (aim : Aim) (left right : Right) (kind : Candidates) (s : State)
+    (v : Value) (others : List ℕ)
     → aim ≡ Computed left right kind → v ≡ apply t Add (operand s left) (operand s right) → None ≡ listed list pc → others ≡ candidates image pc kind
     → targets image v others false ≡ resolved t image list pc aim s
 unfolding resolved
@@ -154,6 +167,7 @@ resolved_others t image list pc aim left right kind s v others is value none are
     ∙ ap (λ (o : Option (List ℕ)). targets_among image (apply t Add (operand s left) (operand s right)) o (candidates image pc kind)) none
     ∙ ap (λ (x : Aim). resolved t image list pc x s) (sym is)
 
+-- a fixed target is the one target
 pub resolved_fixed : (t image : List ℕ) (list : List BoundAssertion) (pc a : ℕ) (aim : Aim) (s : State) → aim ≡ Fixed a
     → record { list = a ∷ []; whole = true } ≡ resolved t image list pc aim s
 unfolding resolved

@@ -1,5 +1,6 @@
 -- What a step writes: it is over the thresholds, and of less, and over more thresholds, at most what it was.
-use Rattle.std.proofs.Common.{◌≡◌, ℕ, suc, ◌^◌, ◌<◌, ◌&&◌, inl, inr, Bool, true, false, eqb, List, [], ◌∷◌, length, get_or, Option, Some, None, Contains, refl, sym, ap, subst, ◌∙◌, arith, ⊎_elim}
+use Rattle.std.proofs.Common.{◌≡◌, ℕ, suc, ◌^◌, ◌<◌, ◌&&◌, inl, inr, Bool, true, false, eqb, List, [], ◌∷◌, length, get_or, Option, Some, None}
+use Rattle.std.proofs.Common.{Contains, refl, sym, ap, subst, ◌∙◌, arith, ⊎_elim}
 use Rattle.std.specs.Prelude.{filter, int_le, if◌then◌else◌}
 use Rattle.std.specs.Option.{option_map, option_and_then}
 use Rattle.std.specs.Set.{is_member}
@@ -39,6 +40,7 @@ pub operand_over : (t : List ℕ) (s : State) (r : Right) → IsThresholds t →
 operand_over t s (Cell c) is fits = cell_over t s c is fits
 operand_over t s (Word n) is fits = word_over t n
 
+-- a greater state has greater operands
 pub operand_up : (t : List ℕ) (a b : State) (r : Right) → IsThresholds t → is_state_at_most a b ≡ true → is_at_most (operand a r) (operand b r) ≡ true
 operand_up t a b (Cell c) is up = cell_up t a b c is up
 operand_up t a b (Word n) is up = same_value t (Words (word_of n ∷ [])) (word_over t n)
@@ -89,19 +91,29 @@ later y ys a there = (suc there.0, omega (arith, there.1), there.2)
 first : (y : ℕ) (ys : List ℕ) → Contains (y ∷ ys) y
 first y ys = (0, omega arith, refl)
 
-read_by : (image rest words : List ℕ) (b a : ℕ) (o : Option ℕ) (p : Option (List ℕ)) → word image b ≡ o → ((ws : List ℕ) → p ≡ Some ws → Contains rest a → IsRead image ws a)
+read_by : (image rest words : List ℕ) (b a : ℕ) (o : Option ℕ) (p : Option (List ℕ)) → word image b ≡ o
+    → ((ws : List ℕ) → p ≡ Some ws → Contains rest a → IsRead image ws a)
     → option_and_then (λ w. option_map (λ ws. word_of w ∷ ws) p) o ≡ Some words → Contains (b ∷ rest) a → IsRead image words a
 read_by image rest words b a None p here more is there = cc
 read_by image rest words b a (Some w) None here more is there = cc
 read_by image rest words b a (Some w) (Some ws) here more is there =
     let same : word_of w ∷ ws ≡ words = cc in
     elim (head_or_tail b rest a there) [
-      | inl now ↦ (record { read = w; stands = ap (word image) now ∙ here; there = subst (λ (xs : List ℕ). Contains xs (word_of w)) same (first (word_of w) ws) })
+      | inl now ↦ (record {
+        read = w;
+        stands = ap (word image) now ∙ here;
+        there = subst (λ (xs : List ℕ). Contains xs (word_of w)) same (first (word_of w) ws);
+      })
       | inr after ↦
           (let r : IsRead image ws a = more ws refl after in
-          record { read = r.read; stands = r.stands; there = subst (λ (xs : List ℕ). Contains xs (word_of r.read)) same (later (word_of w) ws (word_of r.read) r.there) })
+          record {
+            read = r.read;
+            stands = r.stands;
+            there = subst (λ (xs : List ℕ). Contains xs (word_of r.read)) same (later (word_of w) ws (word_of r.read) r.there);
+          })
     ]
 
+-- words that are found at addresses are read there
 pub are_read : (image addresses words : List ℕ) → words_at image addresses ≡ Some words → (a : ℕ) → Contains addresses a → IsRead image words a
 are_read image [] words are a there = absurd (omega (arith, there.1))
 are_read image (b ∷ rest) words are a there =
@@ -115,8 +127,15 @@ pub record AreReadIn (image addresses words : List ℕ) : Type 0 where
   pub fit : (w : ℕ) → Contains read w → w < 2 ^ 32
   pub many : length read ≡ length addresses
 
+-- words that are read at each address are those of all
 pub read_in : (image addresses words : List ℕ) → ((a : ℕ) → Contains addresses a → IsRead image words a) → AreReadIn image addresses words
-read_in image [] words each = record { read = []; are = refl; among = λ w there. absurd (omega (arith, there.1)); fit = λ w there. absurd (omega (arith, there.1)); many = refl }
+read_in image [] words each = record {
+  read = [];
+  are = refl;
+  among = λ w there. absurd (omega (arith, there.1));
+  fit = λ w there. absurd (omega (arith, there.1));
+  many = refl;
+}
 read_in image (b ∷ rest) words each =
     let r : AreReadIn image rest words = read_in image rest words (λ a there. each a (later b rest a there)) in
     let h : IsRead image words b = each b (first b rest) in
@@ -148,7 +167,8 @@ loaded_over t image Ret is = top_over t is
 covered_falls : (t more image : List ℕ) (a b : ℕ) (xs ys : List ℕ) (p : Option (List ℕ)) → IsThresholds t → IsThresholds more → AreMore t more
     → ((w : ℕ) → Contains (a ∷ xs) w → Contains (b ∷ ys) w) → words_at image (b ∷ ys) ≡ p
     → is_at_most (covered more (words_at image (a ∷ xs))) (covered t p) ≡ true
-covered_falls t more image a b xs ys None is is_more in_more part are = under_top more (covered more (words_at image (a ∷ xs))) (covered_over more (words_at image (a ∷ xs)) is_more)
+covered_falls t more image a b xs ys None is is_more in_more part are =
+    under_top more (covered more (words_at image (a ∷ xs))) (covered_over more (words_at image (a ∷ xs)) is_more)
 covered_falls t more image a b xs ys (Some words) is is_more in_more part are =
     let r : AreReadIn image (a ∷ xs) words = read_in image (a ∷ xs) words (λ c there. are_read image (b ∷ ys) words are c (part c there)) in
     let some : 0 < length r.read = omega (arith, r.many) in
@@ -167,6 +187,7 @@ less_than_top : (t : List ℕ) (r : Option Value) → is_over_or_none t r ≡ tr
 less_than_top t None over = refl
 less_than_top t (Some v) over = under_top t v over
 
+-- an ordered value has its words inside the other
 pub inside : (a b : Value) → is_at_most a b ≡ true → is_inside a b ≡ true
 unfolding is_at_most
 inside a b up = (and_parts (is_value b) (is_inside a b) (and_parts (is_value a) (is_value b && is_inside a b) up).1).1
@@ -196,9 +217,11 @@ source_over t image s (Ranged lo hi) is fits = by_test (int_le lo hi) where
   by_test : (b : Bool) → is_over t (if b then span t (rank_of lo) (rank_of hi) else top) ≡ true
   by_test true = span_over t (rank_of lo) (rank_of hi) is
   by_test false = top_over t is
-source_over t image s (Applied op left right) is fits = apply_over t op (operand s left) (operand s right) is (operand_over t s left is fits) (operand_over t s right is fits)
+source_over t image s (Applied op left right) is fits =
+    apply_over t op (operand s left) (operand s right) is (operand_over t s left is fits) (operand_over t s right is fits)
 source_over t image s (Loaded left right) is fits = loaded_over t image (apply t Add (operand s left) (operand s right)) is
 
+-- of a lesser state, over more thresholds, less is written
 pub source_falls : (t more image : List ℕ) (a b : State) (source : Source) → IsThresholds t → IsThresholds more → AreMore t more
     → is_state_over more a ≡ true → is_state_over t b ≡ true → is_state_at_most a b ≡ true
     → is_less (source_value more image a source) (source_value t image b source) ≡ true

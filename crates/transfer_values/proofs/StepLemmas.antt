@@ -101,7 +101,8 @@ values_up vs us c v u up here = by_test (c == 0) where
 ret_below : (u : Value) → is_value_at_most Ret u ≡ true → is_ret u ≡ false → is_value_at_most top u ≡ true
 unfolding is_value_at_most
 ret_below (Words words) up other = absurd (true≢false (sym (inside Ret (Words words) up)))
-ret_below (Range lo hi) up other = and_from (is_value top) (is_value (Range lo hi) && is_inside top (Range lo hi)) ((value_decides top).1 top_is_value) (and_parts (is_value Ret) (is_value (Range lo hi) && is_inside Ret (Range lo hi)) up).1
+ret_below (Range lo hi) up other = and_from (is_value top) (is_value (Range lo hi) && is_inside top (Range lo hi))
+    ((value_decides top).1 top_is_value) (and_parts (is_value Ret) (is_value (Range lo hi) && is_inside Ret (Range lo hi)) up).1
 ret_below Ret up other = absurd (true≢false other)
 
 ret_is : (v : Value) → is_ret v ≡ true → v ≡ Ret
@@ -130,11 +131,13 @@ freed_up t c a b is up = by_tests (is_ret (cell_at a c)) refl (is_ret (cell_at b
       absurd (below_ret (cell_at a c) (subst (λ (v : Value). is_value_at_most (cell_at a c) v ≡ true) (ret_is (cell_at b c) right) here) left)
   by_tests false left false right = up
 
-right_up : (t : List ℕ) (r : Right) (a b : State) → IsThresholds t → are_at_most a.cells b.cells ≡ true → are_at_most (freed_right r a).cells (freed_right r b).cells ≡ true
+right_up : (t : List ℕ) (r : Right) (a b : State) → IsThresholds t → are_at_most a.cells b.cells ≡ true
+    → are_at_most (freed_right r a).cells (freed_right r b).cells ≡ true
 right_up t (Cell c) a b is up = freed_up t c a b is up
 right_up t (Word n) a b is up = up
 
-for_up : (t : List ℕ) (f : Flags) (a b : State) → IsThresholds t → are_at_most a.cells b.cells ≡ true → are_at_most (freed_for f a).cells (freed_for f b).cells ≡ true
+for_up : (t : List ℕ) (f : Flags) (a b : State) → IsThresholds t → are_at_most a.cells b.cells ≡ true
+    → are_at_most (freed_for f a).cells (freed_for f b).cells ≡ true
 for_up t Unknown a b is up = up
 for_up t (Cmp left right) a b is up = right_up t right (freed left a) (freed left b) is (freed_up t left a b is up)
 for_up t (Res cell) a b is up = freed_up t cell a b is up
@@ -219,7 +222,8 @@ flagged_up t more (Some f) a b is lesser up =
     let s = stands more a lesser in
     spoken_up f (freed_for f a) (freed_for f b) (for_up t f a b is parts.0) (λ may. may_when_freed f a (freed_for f b).cells s.size s.zero_cell may)
 
-mapped_over : (t : List ℕ) (o : Option State) (f : State → State) → is_left_over t o ≡ true → ((s : State) → is_state_over t s ≡ true → is_state_over t (f s) ≡ true)
+mapped_over : (t : List ℕ) (o : Option State) (f : State → State) → is_left_over t o ≡ true
+    → ((s : State) → is_state_over t s ≡ true → is_state_over t (f s) ≡ true)
     → is_left_over t (option_map f o) ≡ true
 mapped_over t None f over each = refl
 mapped_over t (Some s) f over each = each s over
@@ -237,12 +241,14 @@ both_over t image step s is fits =
     then_over t (written t image s step.first s) (written t image s step.second) (written_over t image s step.first s is fits fits)
     (λ u made over. written_over t image s step.second u is fits over)
 
+-- what a step leaves may stand where the state may
 pub stepped_over : (t image : List ℕ) (step : Step) (s : State) → IsThresholds t → is_state_over t s ≡ true → is_left_over t (stepped t image step s) ≡ true
 unfolding stepped
 stepped_over t image step s is fits =
     mapped_over t (option_and_then (written t image s step.second) (written t image s step.first s)) (flagged step.flags) (both_over t image step s is fits)
     (λ u over. flagged_over t step.flags u is over)
 
+-- of a lesser state, over more thresholds, a step leaves less
 pub stepped_falls : (t more image : List ℕ) (step : Step) (a b : State) → IsThresholds t → IsThresholds more → AreMore t more
     → is_state_over more a ≡ true → is_state_over t b ≡ true → is_at_most a b ≡ true → is_less (stepped more image step a) (stepped t image step b) ≡ true
 unfolding stepped

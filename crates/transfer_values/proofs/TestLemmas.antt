@@ -73,6 +73,7 @@ module _ (t : List ℕ) (condition : ℕ) (truth : Bool) (is : IsThresholds t) w
         (refine_address t condition truth (cell_at s cell) (Words (0 ∷ [])) (words_named s.cells cell may))
     by_test false = fits
 
+-- what a direction of a branch leaves may stand where the state may
 pub tested_over : (t : List ℕ) (test : Test) (s : State) → IsThresholds t → is_state_over t s ≡ true → is_left_over t (tested t test s) ≡ true
 unfolding tested
 tested_over t Always s is fits = fits
@@ -89,7 +90,8 @@ module _ (t more : List ℕ) (condition : ℕ) (truth : Bool) (a b : State) (is 
         (if z then Some d else left_with k d (refine t (mirror_of condition) truth (cell_at b k) (cell_at b left))) ≡ true
     by_test true = less
     by_test false =
-        left_falls c d k (refine more (mirror_of condition) truth (cell_at a k) (cell_at a left)) (refine t (mirror_of condition) truth (cell_at b k) (cell_at b left)) less
+        left_falls c d k (refine more (mirror_of condition) truth (cell_at a k) (cell_at a left))
+        (refine t (mirror_of condition) truth (cell_at b k) (cell_at b left)) less
         (refine_falls t more (mirror_of condition) truth (cell_at b k) (cell_at b left) (cell_at a k) (cell_at a left) is is_more in_more
         (cell_over t b k is greater) (cell_over t b left is greater) (cell_over more a k is_more lesser) (cell_over more a left is_more lesser)
         (words_named b.cells k may) (cell_up t a b k is up) (cell_up t a b left is up))
@@ -98,7 +100,8 @@ module _ (t more : List ℕ) (condition : ℕ) (truth : Bool) (a b : State) (is 
   refined_falls Unknown may = up
   refined_falls (Cmp left r) may =
       let parts = and_parts (may_name b.cells left) (may_name_right b.cells r) may in
-      then_falls (left_with left a (refine more condition truth (cell_at a left) (operand a r))) (left_with left b (refine t condition truth (cell_at b left) (operand b r)))
+      then_falls (left_with left a (refine more condition truth (cell_at a left) (operand a r)))
+      (left_with left b (refine t condition truth (cell_at b left) (operand b r)))
       (with_right more condition truth a left r) (with_right t condition truth b left r)
       (left_falls a b left (refine more condition truth (cell_at a left) (operand a r)) (refine t condition truth (cell_at b left) (operand b r)) up
       (refine_falls t more condition truth (cell_at b left) (operand b r) (cell_at a left) (operand a r) is is_more in_more
@@ -120,7 +123,8 @@ module _ (t more : List ℕ) (condition : ℕ) (truth : Bool) (a b : State) (is 
       → is_less (with_right more condition truth a left r c) (Some b) ≡ true
   right_under left (Word n) c may less = less
   right_under left (Cell k) c may less = by_test (spares_right condition || (k == left)) where
-    by_test : (z : Bool) → is_less (if z then Some c else left_with k c (refine more (mirror_of condition) truth (cell_at a k) (cell_at a left))) (Some b) ≡ true
+    by_test : (z : Bool) → is_less (if z then Some c else left_with k c (refine more (mirror_of condition) truth (cell_at a k) (cell_at a left)))
+        (Some b) ≡ true
     by_test true = less
     by_test false =
         left_under c b k (refine more (mirror_of condition) truth (cell_at a k) (cell_at a left)) less
@@ -147,6 +151,7 @@ module _ (t more : List ℕ) (condition : ℕ) (truth : Bool) (a b : State) (is 
         (cell_up t a b cell is up))
     by_test false = up
 
+-- of a lesser state, over more thresholds, a direction of a branch leaves less
 pub tested_falls : (t more : List ℕ) (test : Test) (a b : State) → IsThresholds t → IsThresholds more → AreMore t more
     → is_state_over more a ≡ true → is_state_over t b ≡ true → is_at_most a b ≡ true → is_less (tested more test a) (tested t test b) ≡ true
 unfolding tested
@@ -167,6 +172,7 @@ pub always_is : (t : List ℕ) (test : Test) (s : State) → test ≡ Always →
 unfolding tested
 always_is t test s is = ap (λ (x : Test). tested t x s) (sym is)
 
+-- a tested direction is refined by its condition and the flags
 pub when_is : (t : List ℕ) (test : Test) (condition : ℕ) (truth : Bool) (s : State) → test ≡ When condition truth
     → refined t (condition % 16) truth s s.flags ≡ tested t test s
 unfolding tested

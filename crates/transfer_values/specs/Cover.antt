@@ -44,4 +44,5 @@ abbrev pub TargetsCover : Type 0
 TargetsCover =
     (t image : List ℕ) (list : List BoundAssertion) (pc : ℕ) (s : State) (left right : Right) (kind : Candidates) (x y ra : ℕ) → HaveWords t s left right x y ra
     → sum_of x y false % 4 ≡ 0 → IfSome (listed list pc) (λ to. Contains to (sum_of x y false) × (is_code image (sum_of x y false) ≡ true))
-    → (resolved t image list pc (Computed left right kind) s).whole ≡ true → Contains (resolved t image list pc (Computed left right kind) s).list (sum_of x y false)
+    → (resolved t image list pc (Computed left right kind) s).whole ≡ true
+    → Contains (resolved t image list pc (Computed left right kind) s).list (sum_of x y false)

@@ -8,6 +8,7 @@ use Rattle.std.proofs.lemmas.List.Folds.{list_any-append, list_any_at, Any-from_
 use Rattle.std.proofs.lemmas.Grind.{get_or_default_zero}
 use Rattle.bt_base.specs.Graph.{has}
 
+-- numbers that test as the same are
 pub same_number : (x y : ℕ) → (x == y) ≡ true → x ≡ y
 same_number x y t = elim (eqb_tells x y) [ inl a ↦ a.1 | inr a ↦ let f : (x == y) ≡ false = a.0 in cc ]
 
@@ -15,15 +16,18 @@ pub or_none : (a : Bool) → (a || false) ≡ a
 or_none true = refl
 or_none false = refl
 
+-- a list has what stands at its places
 pub has_at : (xs : List ℕ) (i : ℕ) → i < length xs → has xs (get_or xs i 0) ≡ true
 has_at xs i l = list_any_at (λ m. get_or xs i 0 == m) xs i 0 l (eq-eqb (get_or xs i 0) (get_or xs i 0) refl)
 
 has-push : (xs : List ℕ) (y n : ℕ) → has (xs ++ y ∷ []) n ≡ (has xs n || (n == y))
 has-push xs y n = list_any-append (λ m. n == m) xs (y ∷ []) ∙ ap (λ (b : Bool). has xs n || b) (or_none (n == y))
 
+-- one place more has what stands there too
 pub has_take_more : (xs : List ℕ) (i n : ℕ) → i < length xs → has (take (i + 1) xs) n ≡ (has (take i xs) n || (n == get_or xs i 0))
 has_take_more xs i n l = ap (λ (x : List ℕ). has x n) (take_more xs i 0 l) ∙ has-push (take i xs) (get_or xs i 0) n
 
+-- all of a list has what the list has
 pub has_take_all : (xs : List ℕ) (i n : ℕ) → length xs ≤ i → has (take i xs) n ≡ has xs n
 has_take_all xs i n l = ap (λ (x : List ℕ). has x n) (take_all i xs l)
 

@@ -65,5 +65,6 @@ pub lowered_more : (nodes : List ℕ) (head sum i n : ℕ) (old cur new : Option
 lowered_more nodes head sum i n old cur new l before step =
     more_by nodes head sum i n (get_or nodes i 0 == head) old cur new l refl before step
 
+-- behind the last successor nothing more is lowered
 pub lowered_all : (nodes : List ℕ) (head sum i n : ℕ) (old : Option ℕ) → length nodes ≤ i → lowered (take i nodes) head sum n old ≡ lowered nodes head sum n old
 lowered_all nodes head sum i n old l = ap (λ (b : Bool). cond (b && not (n == head)) (least_of old sum) old) (has_take_all nodes i n l)

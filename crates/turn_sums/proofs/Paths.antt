@@ -68,15 +68,18 @@ nodes_below edge count below n (m ∷ rest) w q h = elim (eqb_tells q m) [
   | inr a ↦ nodes_below edge count below m rest w.1 q (subst (λ (b : Bool). (b || has rest q) ≡ true) a.0 h)
 ]
 
+-- the sums along two walks add up
 pub sum_before-append : (f : ℕ → ℕ) (n m : ℕ) (xs ys : List ℕ) → sum_before f n (xs ++ m ∷ ys) ≡ sum_before f n xs + f (end_of n xs) + sum_before f m ys
 sum_before-append f n m [] ys = omega arith
 sum_before-append f n m (x ∷ xs) ys =
     let e : sum_before f x (xs ++ m ∷ ys) ≡ sum_before f x xs + f (end_of x xs) + sum_before f m ys = sum_before-append f x m xs ys in omega (arith, e)
 
+-- a sum over all nodes is that before the last and its own
 pub total_is_before : (f : ℕ → ℕ) (n : ℕ) (xs : List ℕ) → total f (n ∷ xs) ≡ sum_before f n xs + f (end_of n xs)
 total_is_before f n [] = omega arith
 total_is_before f n (x ∷ xs) = let e : total f (x ∷ xs) ≡ sum_before f x xs + f (end_of x xs) = total_is_before f x xs in omega (arith, e)
 
+-- a sum along a walk is bounded by its length
 pub sum_before-le : (f : ℕ → ℕ) → ((n : ℕ) → f n < 2 ^ 32) → (n : ℕ) (rest : List ℕ) → sum_before f n rest ≤ length rest * 2 ^ 32
 sum_before-le f below n [] = omega arith
 sum_before-le f below n (m ∷ rest) =
@@ -89,6 +92,7 @@ pub record HasLast (xs : List ℕ) : Type 0 where
   pub last : ℕ
   pub is : xs ≡ front ++ last ∷ []
 
+-- a list that isn't empty has a last
 pub last_of : (x : ℕ) (xs : List ℕ) → HasLast (x ∷ xs)
 last_of x [] = record { front = []; last = x; is = refl }
 last_of x (y ∷ ys) = let r : HasLast (y ∷ ys) = last_of y ys in record { front = x ∷ r.front; last = r.last; is = ap (λ (l : List ℕ). x ∷ l) r.is }

@@ -37,6 +37,7 @@ lowered_lower nodes head sum old new h n v e =
 pub same_lower : (old new : List (Option ℕ)) → ((n : ℕ) → label new n ≡ label old n) → AreLower old new
 same_lower old new h n v e = record { value = v; is = h n ∙ e; low = omega arith }
 
+-- lower labels go on from one list to the next
 pub lower_trans : (old cur new : List (Option ℕ)) → AreLower old cur → AreLower cur new → AreLower old new
 lower_trans old cur new a b n v e =
     let one : IsLow (label cur n) 0 v = a n v e in
@@ -86,6 +87,7 @@ module _ (edge : ℕ → ℕ → Bool) (head : ℕ) (changes : Changes) where
   pub none_answers : (old new : List (Option ℕ)) (n : ℕ) → label old n ≡ None → IsAnswered edge head changes old new n
   none_answers old new n e m v f leads other = cc
 
+  -- an answer to later labels is one to earlier ones
   pub answered_by : (old cur new : List (Option ℕ)) (n : ℕ) → AreLower old cur → IsAnswered edge head changes cur new n → IsAnswered edge head changes old new n
   answered_by old cur new n low a m v e leads other =
       let one : IsLow (label cur n) 0 v = low n v e in
@@ -93,6 +95,7 @@ module _ (edge : ℕ → ℕ → Bool) (head : ℕ) (changes : Changes) where
       let l : one.value + 0 ≤ v = one.low in let k : two.value + changes.down n ≤ one.value + changes.up n = two.low in
       record { value = two.value; is = two.is; low = omega (arith, l, k) }
 
+  -- an answer stays one as labels fall
   pub answered_later : (old cur new : List (Option ℕ)) (n : ℕ) → IsAnswered edge head changes old cur n → AreLower cur new
       → IsAnswered edge head changes old new n
   answered_later old cur new n a low m v e leads other =
@@ -141,6 +144,7 @@ module _ (edge : ℕ → ℕ → Bool) (head : ℕ) (changes : Changes) where
   lowered_is true false o sum v e = elim (least_is o sum v e) [ inl a ↦ inl a | inr a ↦ inr (refl, refl, a) ]
   lowered_is false is_head o sum v e = inl e
 
+  -- labels that are lowered by what a node asks are found
   pub lowered_found : (nodes : List ℕ) (n sum behind : ℕ) (old new : List (Option ℕ)) → AreFound edge head changes old → ((m : ℕ) → has nodes m ≡ true
       → edge n m ≡ true)
       → label old n ≡ Some sum → behind + changes.down n ≡ sum + changes.up n → ((m : ℕ) → label new m ≡ lowered nodes head behind m (label old m))
@@ -175,6 +179,7 @@ module _ (edge : ℕ → ℕ → Bool) (head : ℕ) (changes : Changes) where
   CoversWalks labels steps = (rest : List ℕ) → IsWalk edge head rest → passes head rest ≡ 0 → length rest ≤ steps
       → IsLow (label labels (end_of head rest)) (sum_before changes.down head rest) (base + sum_before changes.up head rest)
 
+  -- labels that are found cover the walks of no edge
   pub covers_none : (labels : List (Option ℕ)) → AreFound edge head changes labels → CoversWalks labels 0
   covers_none labels f [] w p l = record { value = base; is = f.head_label; low = omega arith }
   covers_none labels f (m ∷ rest) w p l = absurd (omega arith)

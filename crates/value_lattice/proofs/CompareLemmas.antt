@@ -19,6 +19,7 @@ set_in_set xs ys set = (
       (All-contains_itself xs),
 )
 
+-- a set is at most a range exactly where each of its words is between its ends
 pub set_in_range : (xs : List ℕ) (lo hi : ℤ) → IsSet xs → All (IsBetween (rank_of lo) (rank_of hi)) xs ↔ AtMost (Words xs) (Range lo hi)
 set_in_range xs lo hi set = (
   λ all. record { words = λ w ra word address has. All-contains (IsBetween (rank_of lo) (rank_of hi)) xs w all has },
@@ -39,10 +40,12 @@ between_in_range low high lo hi up fits =
           let above : Has (Range lo hi) (word_at high) 0 = each.words (word_at high) 0 (word_at_below high) (omega arith) (omega arith, omega arith) in
           (omega arith, omega arith)
 
+-- no set has each word between places so far apart
 pub no_between_in_set : (low high : ℕ) (words : List ℕ) → IsSet words → low + 128 ≤ high → high < 2 ^ 32 → HasEach (IsBetween low high) (Words words) → ⊥
 no_between_in_set low high words set far fits each = omega
     (arith, set.few, between_is_long words low high far fits (λ w word between. each.words w 0 word (omega arith) between))
 
+-- the return address has not each word between two places
 pub no_between_in_ret : (low high : ℕ) → low ≤ high → high < 2 ^ 32 → HasEach (IsBetween low high) Ret → ⊥
 no_between_in_ret low high up fits each =
     let at_low : place_of (word_at low) ≡ low = place_of-word_at low (omega arith) in

@@ -18,6 +18,7 @@ pub record AreEndsOfFirst (words : List ℕ) (i low high : ℕ) : Type 0 where
 has_at : (words : List ℕ) (i : ℕ) → i < length words → get_or words i 0 < 2 ^ 32 → Contains words (word_at (place_of (get_or words i 0)))
 has_at words i within fits = subst (Contains words) (sym (word_at-place_of (get_or words i 0) fits)) (Contains-get_or words i 0 within)
 
+-- the ends of the first word are its place
 pub ends_none : (words : List ℕ) → 0 < length words → get_or words 0 0 < 2 ^ 32
     → AreEndsOfFirst words 0 (place_of (get_or words 0 0)) (place_of (get_or words 0 0))
 ends_none words some fits = record {
@@ -26,6 +27,7 @@ ends_none words some fits = record {
   greatest = has_at words 0 some fits;
 }
 
+-- the ends of one word more are the lesser and the greater
 pub ends_more : (words : List ℕ) (i low high : ℕ) → i < length words → get_or words i 0 < 2 ^ 32 → AreEndsOfFirst words i low high
     → AreEndsOfFirst words (i + 1) (min low (place_of (get_or words i 0))) (max high (place_of (get_or words i 0)))
 ends_more words i low high within fits so_far = record {
@@ -46,6 +48,7 @@ ends_more words i low high within fits so_far = record {
       ];
 }
 
+-- the ends of all words that were looked at are the ends
 pub ends_all : (words : List ℕ) (i low high : ℕ) → length words ≤ i → AreEndsOfFirst words i low high → AreEndsOf words low high
 ends_all words i low high past first = record {
   between = λ w has. subst (IsBetween low high) (at_zero words w has) (first.between has.0 (omega (arith, has.1)));

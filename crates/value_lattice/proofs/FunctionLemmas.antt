@@ -47,6 +47,7 @@ cover_is_least t list w is word has =
     (least_of_kind t (is_member eqb list) (Contains list) is (λ v fits passes. (member_decides list v).0 passes)
     (λ v fits there. (member_decides list v).1 there)) word has
 
+-- what spans two places is the least value with all words between them
 pub span_is_least : (t : List ℕ) (low high : ℕ) → IsThresholds t → low ≤ high → low < 2 ^ 32 → IsLeast t (IsBetween low high) (span t low high)
 unfolding span
 span_is_least t low high is up fits =
@@ -62,6 +63,7 @@ exact_down t is = record { threshold = is.least; outward = omega arith; nearest 
 exact_up : (t : List ℕ) → IsThresholds t → IsRoundedUp t 4294967295 (rank_of (pos 2147483647))
 exact_up t is = record { threshold = is.greatest; outward = omega arith; nearest = λ k has high. omega (arith, high) }
 
+-- any word is the least value with all words
 pub top_is_least : (t : List ℕ) → IsThresholds t → IsLeast t (IsBetween 0 4294967295) top
 top_is_least t is = range_is_least t 0 4294967295 (negsuc 2147483647) (pos 2147483647) (omega arith) (omega arith) (record { sfits = omega arith })
     (record { sfits = omega arith }) (exact_down t is) (exact_up t is)
@@ -122,6 +124,7 @@ join_is_join t Ret Ret is a b = record {
   least = λ u over left right. left;
 }
 
+-- `cover`, `span` and `join` as functions of the thresholds and their arguments are the least values
 pub functions_are_least : FunctionsAreLeast
 functions_are_least = record {
   cover = cover_is_least;
@@ -139,6 +142,7 @@ value_is_no_ret : (t words : List ℕ) → is_some_ret (value_of t words) ≡ fa
 value_is_no_ret t [] = refl
 value_is_no_ret t (w ∷ ws) = hull_is_no_ret t (w ∷ ws) (nat_le (length (w ∷ ws)) 128)
 
+-- the least value of a test is never the return address
 pub least_is_no_ret : (t : List ℕ) (test : ℕ → Bool) → is_some_ret (least_of t test) ≡ false
 unfolding least_of
 least_is_no_ret t test = value_is_no_ret t (words_below (2 ^ 32) test)
@@ -150,6 +154,7 @@ or_top_is_no_ret (Some v) words = words
 either_is_no_ret : (t : List ℕ) (test : ℕ → Bool) → is_ret (or_top (least_of t test)) ≡ false
 either_is_no_ret t test = or_top_is_no_ret (least_of t test) (least_is_no_ret t test)
 
+-- a join is the return address exactly where both values are
 pub join_is_ret : (t : List ℕ) (a b : Value) → is_ret (join t a b) ≡ (is_ret a && is_ret b)
 unfolding join
 join_is_ret t (Words xs) (Words ys) = either_is_no_ret t (in_either (Words xs) (Words ys))
@@ -164,19 +169,23 @@ join_is_ret t Ret Ret = refl
 
 -- the join, by tests
 
+-- the join of values over thresholds is over them
 pub join_over : (t : List ℕ) (a b : Value) → IsThresholds t → is_over t a ≡ true → is_over t b ≡ true → is_over t (join t a b) ≡ true
 join_over t a b is over_a over_b = (over_decides t (join t a b)).1 (functions_are_least.join t a b is over_a over_b).over
 
+-- the left value is at most the join
 pub join_left : (t : List ℕ) (a b : Value) → IsThresholds t → is_over t a ≡ true → is_over t b ≡ true → is_at_most a (join t a b) ≡ true
 join_left t a b is over_a over_b =
     let joined : IsJoin t a b (join t a b) = functions_are_least.join t a b is over_a over_b in
     at_most_from a (join t a b) ((over_decides t a).0 over_a).value joined.over.value joined.left
 
+-- the right value is at most the join
 pub join_right : (t : List ℕ) (a b : Value) → IsThresholds t → is_over t a ≡ true → is_over t b ≡ true → is_at_most b (join t a b) ≡ true
 join_right t a b is over_a over_b =
     let joined : IsJoin t a b (join t a b) = functions_are_least.join t a b is over_a over_b in
     at_most_from b (join t a b) ((over_decides t b).0 over_b).value joined.over.value joined.right
 
+-- the join is at most what both are at most
 pub join_least : (t : List ℕ) (a b u : Value) → IsThresholds t → is_over t a ≡ true → is_over t b ≡ true → is_over t u ≡ true → is_at_most a u ≡ true
     → is_at_most b u ≡ true → is_at_most (join t a b) u ≡ true
 join_least t a b u is over_a over_b over_u left right =
@@ -196,6 +205,7 @@ is_less_from_least t more kind wider r s in_more in_wider wide narrow =
     less_decides s r (λ v is. some_is_value more kind s v narrow is) (λ v is. some_is_value t wider r v wide is)
     (less_from_least t more kind wider r s in_more in_wider wide narrow)
 
+-- a test that passes fewer words has a lesser value over more thresholds
 pub least_of_falls : (t more : List ℕ) (narrow wide : ℕ → Bool) → IsThresholds t → IsThresholds more → AreMore t more
     → ((w : ℕ) → w < 2 ^ 32 → narrow w ≡ true → wide w ≡ true) → is_less (least_of more narrow) (least_of t wide) ≡ true
 least_of_falls t more narrow wide is is_more in_more in_wide =
@@ -207,12 +217,14 @@ falls : (t more : List ℕ) (kind wider : ℕ → Type 0) (v u : Value) → AreM
 falls t more kind wider v u in_more in_wider narrow wide = at_most_from v u narrow.over.value wide.over.value
     (least_is_monotone t more kind wider v u in_more.thresholds in_wider narrow wide)
 
+-- a part of a list over more thresholds has a lesser cover
 pub cover_falls : (t more list wider : List ℕ) (w : ℕ) → IsThresholds t → IsThresholds more → AreMore t more → w < 2 ^ 32 → Contains list w
     → ((v : ℕ) → Contains list v → Contains wider v) → is_at_most (cover more list) (cover t wider) ≡ true
 cover_falls t more list wider w is is_more in_more word has in_wider =
     falls t more (Contains list) (Contains wider) (cover more list) (cover t wider) in_more (λ v fits there. in_wider v there)
     (cover_is_least more list w is_more word has) (cover_is_least t wider w is word (in_wider w has))
 
+-- places between others over more thresholds have a lesser span
 pub span_falls : (t more : List ℕ) (low high lower higher : ℕ) → IsThresholds t → IsThresholds more → AreMore t more → low ≤ high → low < 2 ^ 32 → lower ≤ low
     → high ≤ higher → is_at_most (span more low high) (span t lower higher) ≡ true
 span_falls t more low high lower higher is is_more in_more up fits down over =
@@ -220,6 +232,7 @@ span_falls t more low high lower higher is is_more in_more up fits down over =
     (λ v word between. (omega (arith, between, down), omega (arith, between, over)))
     (span_is_least more low high is_more up fits) (span_is_least t lower higher is (omega arith) (omega arith))
 
+-- lesser values over more thresholds have a lesser join
 pub join_falls : (t more : List ℕ) (a b c d : Value) → IsThresholds t → IsThresholds more → AreMore t more → is_over t a ≡ true → is_over t b ≡ true
     → is_over more c ≡ true → is_over more d ≡ true → is_at_most c a ≡ true → is_at_most d b ≡ true → is_at_most (join more c d) (join t a b) ≡ true
 join_falls t more a b c d is is_more in_more over_a over_b over_c over_d left right =
@@ -230,6 +243,7 @@ join_falls t more a b c d is is_more in_more over_a over_b over_c over_d left ri
 
 -- what is computed is what the functions give
 
+-- what covers a list as the least value is what the function gives
 pub is_cover : (t list : List ℕ) (w : ℕ) (v : Value) → IsThresholds t → w < 2 ^ 32 → Contains list w → IsLeast t (Contains list) v → v ≡ cover t list
 is_cover t list w v is word has least = least_value_is_one t (Contains list) v (cover t list) least (cover_is_least t list w is word has)
 
@@ -239,8 +253,10 @@ only_is_cover t [] is one word = absurd (omega (arith, one))
 only_is_cover t (x ∷ []) is one word = is_cover t (x ∷ []) x (Words (x ∷ [])) is word (0, omega arith, refl) (set_is_least t (x ∷ []) (one_set x word))
 only_is_cover t (x ∷ y ∷ rest) is one word = absurd (omega (arith, one))
 
+-- what is least between two places is what the function gives
 pub is_span : (t : List ℕ) (low high : ℕ) (v : Value) → IsThresholds t → low ≤ high → low < 2 ^ 32 → IsLeast t (IsBetween low high) v → v ≡ span t low high
 is_span t low high v is up fits least = least_value_is_one t (IsBetween low high) v (span t low high) least (span_is_least t low high is up fits)
 
+-- what is a join is what the function gives
 pub is_join : (t : List ℕ) (a b v : Value) → IsThresholds t → IsOver t a → IsOver t b → IsJoin t a b v → v ≡ join t a b
 is_join t a b v is over_a over_b joined = join_is_one t a b v (join t a b) joined (join_is_join t a b is over_a over_b)

@@ -68,6 +68,7 @@ range_counts t lo hi over =
     (between_yes (rank_of lo) (rank_of hi) (rank_of lo) (omega arith) (omega arith)) in
     omega (arith, more)
 
+-- a value below another has less height
 pub rise : (t : List ℕ) (a b : Value) → IsOver t a → IsOver t b → IsBelow a b → height t a < height t b
 rise t (Words xs) (Words ys) a b below = set_rises xs ys a.value b.value below
 rise t (Words xs) (Range lo hi) a b below = omega (arith, a.value.few, range_counts t lo hi b)
@@ -79,6 +80,7 @@ rise t Ret (Words ys) a b below = absurd (no_ret_in_set ys b.value below.up)
 rise t Ret (Range lo hi) a b below = omega arith
 rise t Ret Ret a b below = absurd (below.apart below.up)
 
+-- no value is higher than 128 and the number of thresholds
 pub bound : (t : List ℕ) (v : Value) → IsOver t v → height t v ≤ 128 + length t
 bound t (Words words) over = omega (arith, over.value.few)
 bound t (Range lo hi) over = omega (arith, count_by-le-length (is_between (rank_of lo) (rank_of hi)) t)
@@ -94,6 +96,7 @@ chain_from : (t : List ℕ) (v : Value) (vs : List Value) → IsOver t v → IsC
 chain_from t v [] over chain = omega (arith, bound t v over)
 chain_from t v (u ∷ us) over chain = omega (arith, chain_from t u us chain.0 chain.2, rise t v u over chain.0 chain.1)
 
+-- a chain of rising values is short
 pub chain_is_short : (t : List ℕ) (values : List Value) → IsChain t values → length values ≤ 128 + length t
 chain_is_short t [] chain = omega arith
 chain_is_short t (v ∷ vs) chain = omega (arith, chain_from t v vs chain.0 chain.1, positive t v chain.0)

@@ -11,6 +11,7 @@ use Rattle.value_lattice.specs.declared.value.Value.TheVariants.{Words, Range, R
 use Rattle.value_lattice.proofs.SetLemmas.{place_of-word_at, word_at_below, place_of_below, between_is_long}
 use Rattle.value_lattice.proofs.ValueLemmas.{no_range_in_set, no_range_in_ret, range_in_range}
 
+-- a join is one the other way round
 pub join_flip : (t : List ℕ) (a b v : Value) → IsJoin t a b v → IsJoin t b a v
 join_flip t a b v join = record { over = join.over; left = join.right; right = join.left; least = λ u over left right. join.least u over right left }
 

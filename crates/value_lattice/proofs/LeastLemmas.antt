@@ -21,6 +21,7 @@ use Rattle.value_lattice.proofs.SetLemmas.{place_of-word_at, word_at-place_of, p
 use Rattle.value_lattice.proofs.ValueLemmas.{rank_below, range_is_least, set_is_least, hull_is_least}
 use Rattle.value_lattice.proofs.WordsBelowLemmas.{words_rise, words_fit, words_pass, passing_is_there}
 
+-- what a list contains is its first or in the rest
 pub head_or_tail : (x : ℕ) (xs : List ℕ) (w : ℕ) → Contains (x ∷ xs) w → (w ≡ x) ⊎ Contains xs w
 head_or_tail x xs w (zero, within, is) = inl (sym is)
 head_or_tail x xs w (suc k, within, is) = inr (k, omega arith, is)
@@ -240,12 +241,14 @@ low_fits (Words words) value = least_fits words
 low_fits (Range lo hi) value = rank_below lo value.0
 low_fits Ret value = omega arith
 
+-- the upper end of a value is a place
 pub high_fits : (v : Value) → IsValue v → high_end v < 2 ^ 32
 unfolding high_end
 high_fits (Words words) value = greatest_fits words
 high_fits (Range lo hi) value = rank_below hi value.1
 high_fits Ret value = omega arith
 
+-- the ends of a set are those of the function
 pub set_ends : (words : List ℕ) (low high : ℕ) → IsSet words → AreEndsOf words low high → low < 2 ^ 32 → high < 2 ^ 32
     → (low ≡ low_end (Words words)) × (high ≡ high_end (Words words))
 set_ends words low high set ends fits_low fits_high =

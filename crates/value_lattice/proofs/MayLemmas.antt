@@ -20,9 +20,11 @@ has_itself (Words words) w may = may.has
 has_itself (Range lo hi) w may = may.has
 has_itself Ret w may = refl
 
+-- what a value has with some return address it may have
 pub may_from_has : (v : Value) (w ra : ℕ) → ra < 2 ^ 32 → Has v w ra → MayHave v w
 may_from_has v w ra address has = record { address = ra; fits = address; has = has }
 
+-- a value may have a word exactly where it has it with that word as the return address
 pub may_have_itself : (v : Value) (w : ℕ) → w < 2 ^ 32 → Has v w w ↔ MayHave v w
 may_have_itself v w word = (may_from_has v w w word, has_itself v w)
 
@@ -36,6 +38,7 @@ pub least_or_none_of_same : (t : List ℕ) (kind other : ℕ → Type 0) (r : Op
 least_or_none_of_same t kind other None there back none = λ w word is. none w word (back w word is)
 least_or_none_of_same t kind other (Some v) there back least = least_of_same t kind other v there back least
 
+-- a value that is there is the least of its kind
 pub some_least : (t : List ℕ) (kind : ℕ → Type 0) (r : Option Value) (v : Value) → r ≡ Some v → IsLeastOrNone t kind r → IsLeast t kind v
 some_least t kind r v is least = subst (IsLeastOrNone t kind) is least
 
@@ -49,6 +52,7 @@ pub record HasOne (v : Value) : Type 0 where
   pub fits : word < 2 ^ 32
   pub has : Has v word word
 
+-- each value has a word
 pub some_word_of : (v : Value) → IsValue v → HasOne v
 some_word_of (Words words) value =
     let first : Contains words (get_or words 0 0) = Contains-get_or words 0 0 value.some in
@@ -70,6 +74,7 @@ one_set w word = record { some = omega arith; few = omega arith; rising = rises;
   fit zero d within = word
   fit (suc k) d within = absurd (omega arith)
 
+-- a list of one word contains that alone
 pub only_word : (w v : ℕ) → Contains (w ∷ []) v → v ≡ w
 only_word w v (zero, within, is) = sym is
 only_word w v (suc k, within, is) = absurd (omega arith)
@@ -85,6 +90,7 @@ least_has_some t kind v none least =
       below w word = least.least (Words (w ∷ [])) (record { value = one_set w word; ends = tt })
           (record { words = λ x ra x_word address is. absurd (none x x_word is) })
 
+-- there is one least value of a kind, or none
 pub least_is_one : (t : List ℕ) (kind : ℕ → Type 0) (r s : Option Value) → IsLeastOrNone t kind r → IsLeastOrNone t kind s → r ≡ s
 least_is_one t kind None None none other = refl
 least_is_one t kind None (Some v) none least = absurd (least_has_some t kind v none least)
@@ -92,6 +98,7 @@ least_is_one t kind (Some u) None least none = absurd (least_has_some t kind u n
 least_is_one t kind (Some u) (Some v) one other =
     ap (λ (x : Value). Some x) (same_value u v one.over.value other.over.value (one.least v other.over other.each) (other.least u one.over one.each))
 
+-- of fewer words, over more thresholds, the least value is at most what it was
 pub less_from_least : (t more : List ℕ) (kind wider : ℕ → Type 0) (r s : Option Value) → AreMore t more → ((w : ℕ) → w < 2 ^ 32 → kind w → wider w)
     → IsLeastOrNone t wider r → IsLeastOrNone more kind s → IsLess s r
 less_from_least t more kind wider r None in_more in_wider wide narrow = tt
@@ -113,6 +120,7 @@ zero_is (Words (w ∷ v ∷ rest)) is = absurd (false≢true is)
 zero_is (Range lo hi) is = absurd (false≢true is)
 zero_is Ret is = absurd (false≢true is)
 
+-- what is at most the word 0 is the word 0
 pub below_zero : (d : Value) → IsValue d → AtMost d (Words (0 ∷ [])) → d ≡ Words (0 ∷ [])
 below_zero (Words words) value up =
     let first : Contains words (get_or words 0 0) = Contains-get_or words 0 0 value.some in
@@ -123,6 +131,7 @@ below_zero (Words words) value up =
 below_zero (Range lo hi) value up = absurd (no_range_in_set lo hi (0 ∷ []) value (one_set 0 (omega arith)) up)
 below_zero Ret value up = absurd (no_ret_in_set (0 ∷ []) (one_set 0 (omega arith)) up)
 
+-- what is at most a value that is 0 is 0
 pub zero_below : (d b : Value) → IsValue d → AtMost d b → is_zero b ≡ true → is_zero d ≡ true
 zero_below d b value up is =
     let same : d ≡ Words (0 ∷ []) = below_zero d value (subst (λ (v : Value). AtMost d v) (zero_is b is) up) in

@@ -88,6 +88,7 @@ side_has xs merged i number next step has k below =
       | inr new ↦ subst (Contains (merged ++ number ∷ [])) (sym (step.taken k new below)) (Contains-push merged number)
     ]
 
+-- one number more is merged
 pub merging_more : (xs ys : List ℕ) (i j number i' j' : ℕ) (merged : List ℕ) → IsStrictlyIncreasing xs → IsStrictlyIncreasing ys → IsMerging xs ys i j merged
     → IsNext xs ys i j number → IsStep xs i number i' → IsStep ys j number j' → IsMerging xs ys i' j' (merged ++ number ∷ [])
 merging_more xs ys i j number i' j' merged xs_rise ys_rise m next left right = record {

@@ -36,6 +36,7 @@ least_of_joins t a v (b ∷ bs) over (m, join, rest) =
           (All-head (λ x. AtMost x u) b bs tail)) (All-tail (λ x. AtMost x u) b bs tail));
     }
 
+-- the same values joined in any order come to one
 pub joins_agree : (t : List ℕ) (a b v u : Value) (firsts seconds : List Value) → All (IsOver t) (a ∷ firsts) → All (IsOver t) (b ∷ seconds)
     → ((x : Value) → Contains (a ∷ firsts) x ↔ Contains (b ∷ seconds) x) → JoinsTo t a firsts v → JoinsTo t b seconds u → v ≡ u
 joins_agree t a b v u firsts seconds over_firsts over_seconds same first second =
@@ -47,6 +48,7 @@ joins_agree t a b v u firsts seconds over_firsts over_seconds same first second 
     (λ x has. All-contains (λ x. AtMost x v) (a ∷ firsts) x one.each ((same x).1 has)) (b ∷ seconds) (All-contains_itself (b ∷ seconds))) in
     same_value v u one.over.value other.over.value up down
 
+-- lesser values over more thresholds have joins that are at most the others
 pub join_is_monotone : (t more : List ℕ) (a b c d v u : Value) → AreMore t more → AtMost c a → AtMost d b → IsJoin t a b v → IsJoin more c d u → AtMost u v
 join_is_monotone t more a b c d v u in_more left right join less =
     less.least v (over_more t more v in_more.thresholds join.over) (at_most_trans c a v left join.left) (at_most_trans d b v right join.right)

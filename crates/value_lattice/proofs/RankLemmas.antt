@@ -8,6 +8,7 @@ use Rattle.value_lattice.specs.declared.value.Value.{Value}
 use Rattle.value_lattice.proofs.HeightLemmas.{rise, bound}
 use Rattle.value_lattice.proofs.TestLemmas.{over_decides, ordered, at_most_from, the_order_is_one}
 
+-- a greater value is higher, or it is at most back
 pub height_or_back : (t : List ℕ) (a b : Value) → is_over t a ≡ true → is_over t b ≡ true → is_at_most a b ≡ true
     → (height t a < height t b) ⊎ (is_at_most b a ≡ true)
 height_or_back t a b over_a over_b up =
@@ -18,6 +19,7 @@ height_or_back t a b over_a over_b up =
           (record { up = there.up; apart = λ down. both_ways (is_at_most b a) apart (at_most_from b a there.right there.left down) }))
     ]
 
+-- lists of values that are at most each other are the same
 pub lists_are_same : (vs us : List Value) → are_at_most vs us ≡ true → are_at_most us vs ≡ true → vs ≡ us
 lists_are_same [] [] up down = refl
 lists_are_same [] (u ∷ us) up down = absurd (false≢true up)
@@ -29,6 +31,7 @@ lists_are_same (v ∷ vs) (u ∷ us) up down =
     let rest : vs ≡ us = lists_are_same vs us first.1 back.1 in
     cc
 
+-- the heights of a greater list are more, or it is at most back
 pub heights_rise : (t : List ℕ) (vs us : List Value) → list_all (is_over t) vs ≡ true → list_all (is_over t) us ≡ true → are_at_most vs us ≡ true
     → (heights t vs < heights t us) ⊎ (are_at_most us vs ≡ true)
 heights_rise t [] [] over_vs over_us up = inr refl
@@ -51,6 +54,7 @@ heights_rise t (v ∷ vs) (u ∷ us) over_vs over_us up =
           ]
     ]
 
+-- the heights of a list are bounded by its length and the thresholds
 pub heights_bound : (t : List ℕ) (vs : List Value) → list_all (is_over t) vs ≡ true → heights t vs ≤ length vs * (128 + length t)
 heights_bound t [] over = omega arith
 heights_bound t (v ∷ vs) over =

@@ -27,9 +27,11 @@ place_of-word_at k h = omega arith
 pub word_at-place_of : (w : ℕ) → w < 2 ^ 32 → word_at (place_of w) ≡ w
 word_at-place_of w h = omega arith
 
+-- a word at a place fits 32 bits
 pub word_at_below : (k : ℕ) → word_at k < 2 ^ 32
 word_at_below k = omega arith
 
+-- a place fits 32 bits
 pub place_of_below : (w : ℕ) → place_of w < 2 ^ 32
 place_of_below w = omega arith
 
@@ -128,6 +130,7 @@ count_by-le p q more (x ∷ xs) =
     let here : p x ≡ true → q x ≡ true = more x in
     grind (arith, rest, here, count_by-cons p x xs, count_by-cons q x xs)
 
+-- a test that passes one more counts more
 pub count_by-lt : (p q : ℕ → Bool) → ((x : ℕ) → p x ≡ true → q x ≡ true) → (xs : List ℕ) (w : ℕ) → Contains xs w → p w ≡ false → q w ≡ true
     → count_by p xs < count_by q xs
 count_by-lt p q more [] w has held passed = absurd (omega (arith, has.1))
@@ -151,6 +154,7 @@ listed_are_between words low high w up fits is has =
     let at : place_of (word_at (low + listed.0)) ≡ low + listed.0 = place_of-word_at (low + listed.0) (omega arith) in
     rw same (omega arith, omega arith)
 
+-- the words between two places are those at the places between
 pub between_are_listed : (words : List ℕ) (low high w : ℕ) → low ≤ high → words ≡ map word_at (range_with_len low (high - low + 1)) → w < 2 ^ 32
     → IsBetween low high w → Contains words w
 between_are_listed words low high w up is word between =

@@ -62,9 +62,11 @@ fits_decides : (z : ℤ) → Decides (fits_word z) (FitsSigned w32 z)
 fits_decides (pos n) = (λ e. record { sfits = ltb-true n (2 ^ 31) e }, λ f. lt-ltb n (2 ^ 31) f.sfits)
 fits_decides (negsuc n) = (λ e. record { sfits = ltb-true n (2 ^ 31) e }, λ f. lt-ltb n (2 ^ 31) f.sfits)
 
+-- the test of places decides what is between two
 pub placed_decides : (low high w : ℕ) → Decides (is_placed low high w) (IsBetween low high w)
 placed_decides low high w = Decides-and (nat_le low (place_of w)) (nat_le (place_of w) high) (Decides-leb low (place_of w)) (Decides-leb (place_of w) high)
 
+-- the test of values decides what a value is
 pub value_decides : (v : Value) → Decides (is_value v) (IsValue v)
 unfolding is_value
 value_decides (Words words) = set_decides words
@@ -75,6 +77,7 @@ value_decides (Range lo hi) =
     (Decides-and (fits_word hi) (nat_le (rank_of lo + 128) (rank_of hi)) (fits_decides hi) (Decides-leb (rank_of lo + 128) (rank_of hi))))
 value_decides Ret = (λ e. tt, λ h. refl)
 
+-- the test of members decides what a list contains
 pub member_decides : (xs : List ℕ) (w : ℕ) → Decides (is_member eqb xs w) (Contains xs w)
 member_decides xs w = is_member-Decides Decides-eqb xs w
 
@@ -84,6 +87,7 @@ ends_decide t (Range lo hi) = Decides-and (is_member eqb t (rank_of lo)) (is_mem
     (member_decides t (rank_of hi))
 ends_decide t Ret = (λ e. tt, λ h. refl)
 
+-- the test of thresholds decides what is over them
 pub over_decides : (t : List ℕ) (v : Value) → Decides (is_over t v) (IsOver t v)
 unfolding is_over
 over_decides t v =
@@ -115,6 +119,7 @@ inside_decides Ret (Range lo hi) va vb =
     (Decides-and (nat_le (rank_of lo) 0) (nat_le 4294967295 (rank_of hi)) (Decides-leb (rank_of lo) 0) (Decides-leb 4294967295 (rank_of hi)))
 inside_decides Ret Ret va vb = (λ e. record { words = λ w ra word address has. has }, λ up. refl)
 
+-- the test of the order decides the order of values
 pub at_most_decides : (a b : Value) → Decides (is_at_most a b) (AreOrdered a b)
 unfolding is_at_most
 at_most_decides a b = (there, back) where
@@ -131,6 +136,7 @@ at_most_decides a b = (there, back) where
       and_from (is_value a) (is_value b && is_inside a b) ((value_decides a).1 o.left)
       (and_from (is_value b) (is_inside a b) ((value_decides b).1 o.right) ((inside_decides a b o.left o.right).1 o.up))
 
+-- the test of words decides what a value may have
 pub may_have_decides : (v : Value) (w : ℕ) → w < 2 ^ 32 → Decides (may_have v w) (MayHave v w)
 unfolding may_have
 may_have_decides (Words words) w word = Decides-like (is_member eqb words w)
@@ -143,9 +149,11 @@ may_have_decides Ret w word = (λ e. may_be_any w word, λ may. lt-ltb w (2 ^ 32
 
 -- the order as a test: its parts, and how to get it
 
+-- where the test of the order holds, both are values and ordered
 pub ordered : (a b : Value) → is_at_most a b ≡ true → AreOrdered a b
 ordered a b e = (at_most_decides a b).0 e
 
+-- values that are ordered pass the test of the order
 pub at_most_from : (a b : Value) → IsValue a → IsValue b → AtMost a b → is_at_most a b ≡ true
 at_most_from a b left right up = (at_most_decides a b).1 (record { left = left; right = right; up = up })
 
@@ -153,15 +161,19 @@ at_most_from a b left right up = (at_most_decides a b).1 (record { left = left; 
 pub is_order : (r : Bool) (a b : Value) → IsValue a → IsValue b → Decides r (AtMost a b) → r ≡ is_at_most a b
 is_order r a b left right decides = one_answer r (is_at_most a b) decides (λ e. (ordered a b e).up, λ up. at_most_from a b left right up)
 
+-- what is over thresholds is a value
 pub is_over-value : (t : List ℕ) (v : Value) → is_over t v ≡ true → is_value v ≡ true
 is_over-value t v over = let o : IsOver t v = (over_decides t v).0 over in (value_decides v).1 o.value
 
 top_fits : IsValue (Range (negsuc 2147483647) (pos 2147483647))
 top_fits = (record { sfits = omega arith }, record { sfits = omega arith }, omega arith)
 
+-- each value is at most any word
 pub under_any : (a : Value) → AtMost a (Range (negsuc 2147483647) (pos 2147483647))
 under_any a = record { words = λ w ra word address has. let below : place_of w < 2 ^ 32 = place_of_below w in (omega arith, omega arith) }
 
+-- the order as a test: values are at most themselves and any word, it goes on from one to the next, values that are at
+-- most each other are the same, and what is at most the word 0 is the word 0
 pub the_order_is_one : TheOrderIsOne
 the_order_is_one = record {
   same = λ a value. let is : IsValue a = (value_decides a).0 value in at_most_from a a is is (record { words = λ w ra word address has. has });

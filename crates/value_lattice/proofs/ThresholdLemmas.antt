@@ -11,6 +11,7 @@ use Rattle.value_lattice.specs.Order.{rank_of}
 use Rattle.value_lattice.specs.Rounding.{IsRoundedDown, IsRoundedUp}
 use Rattle.value_lattice.specs.Thresholds.{IsThresholds, Widens}
 
+-- thresholds don't fall
 pub non_decreasing : (t : List ℕ) → IsStrictlyIncreasing t → (i j : ℕ) → i ≤ j → j < length t → get_or t i 0 ≤ get_or t j 0
 non_decreasing t rises i j up within =
     elim (cases_lt i j) [
@@ -41,6 +42,7 @@ before t place i is fits found =
       | inr none ↦ absurd (omega (arith, g.above is.least.0 (omega arith) is.least.1, at_zero t 0 is.least))
     ]
 
+-- a place that is no threshold stands before some threshold
 pub after : (t : List ℕ) (place i : ℕ) → IsThresholds t → place < 2 ^ 32 → IsBinarySearchResult (λ y. nat_cmp y place) t (Err i) → i < length t
 after t place i is fits found =
     let g = gap t place i is.rising found in
@@ -49,6 +51,7 @@ after t place i is fits found =
       | inr none ↦ absurd (omega (arith, g.below is.greatest.0 (omega (arith, is.greatest.1)), at_zero t 4294967295 is.greatest))
     ]
 
+-- the threshold before where a place would stand is the one below it
 pub rounded_down : (t : List ℕ) (place i : ℕ) → IsThresholds t → place < 2 ^ 32 → IsBinarySearchResult (λ y. nat_cmp y place) t (Err i)
     → IsRoundedDown t place (get_or t (i - 1) 0)
 rounded_down t place i is fits found =
@@ -64,6 +67,7 @@ rounded_down t place i is fits found =
           ];
     }
 
+-- the threshold where a place would stand is the one above it
 pub rounded_up : (t : List ℕ) (place i : ℕ) → IsThresholds t → place < 2 ^ 32 → IsBinarySearchResult (λ y. nat_cmp y place) t (Err i)
     → IsRoundedUp t place (get_or t i 0)
 rounded_up t place i is fits found =

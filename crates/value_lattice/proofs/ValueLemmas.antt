@@ -87,6 +87,7 @@ rank_is_exact (pos m) (negsuc n) x_fits y_fits same = absurd (omega (arith, y_fi
 rank_is_exact (negsuc m) (pos n) x_fits y_fits same = absurd (omega (arith, x_fits.sfits))
 rank_is_exact (negsuc m) (negsuc n) x_fits y_fits same = ap negsuc (omega (arith, x_fits.sfits, y_fits.sfits))
 
+-- the place of a number of 32 bits with sign fits 32 bits
 pub rank_below : (x : ℤ) → FitsSigned w32 x → rank_of x < 2 ^ 32
 rank_below (pos n) fits = omega (arith, fits.sfits)
 rank_below (negsuc n) fits = omega (arith, fits.sfits)
@@ -100,6 +101,7 @@ no_range_in_set lo hi words range set at_most = omega (
       (λ w word between. at_most.words w 0 word (omega arith) between),
 )
 
+-- no set is at most the return address
 pub no_set_in_ret : (words : List ℕ) → IsSet words → AtMost (Words words) Ret → ⊥
 no_set_in_ret words set at_most =
     let first : Contains words (get_or words 0 0) = Contains-get_or words 0 0 set.some in
@@ -123,6 +125,7 @@ high_end lo hi v range at_most ra address =
     let at : place_of (word_at (rank_of hi)) ≡ rank_of hi = place_of-word_at (rank_of hi) fits in
     at_most.words (word_at (rank_of hi)) ra (word_at_below (rank_of hi)) address (omega arith, omega arith)
 
+-- no range is at most the return address
 pub no_range_in_ret : (lo hi : ℤ) → IsValue (Range lo hi) → AtMost (Range lo hi) Ret → ⊥
 no_range_in_ret lo hi range at_most =
     let zero_is : word_at (rank_of lo) ≡ 0 = low_end lo hi Ret range at_most 0 (omega arith) in

@@ -33,18 +33,22 @@ is_kept test xs w has passes =
     is_member-filter nat_eq_equiv test w (λ x same. ap test (eqb-true w x same)) xs ∙ and_from (is_member eqb xs w) (test w) member passes in
     (is_member-Decides Decides-eqb (filter test xs) w).0 kept
 
+-- the words of a test rise
 pub words_rise : (n : ℕ) (test : ℕ → Bool) → IsStrictlyIncreasing (words_below n test)
 unfolding words_below
 words_rise n test = IsStrictlyIncreasing-filter test (range_with_len 0 n) (numbers_rise n)
 
+-- the words below a number are below it
 pub words_fit : (n : ℕ) (test : ℕ → Bool) → All (λ w. w < n) (words_below n test)
 unfolding words_below
 words_fit n test = All-filter test (λ v. v < n) (range_with_len 0 n) (numbers_fit n)
 
+-- the words of a test pass it
 pub words_pass : (n : ℕ) (test : ℕ → Bool) (w : ℕ) → Contains (words_below n test) w → test w ≡ true
 unfolding words_below
 words_pass n test w has = All-contains (λ v. test v ≡ true) (filter test (range_with_len 0 n)) w (filter_passes test (range_with_len 0 n)) has
 
+-- what passes a test is among its words
 pub passing_is_there : (n : ℕ) (test : ℕ → Bool) (w : ℕ) → w < n → test w ≡ true → Contains (words_below n test) w
 unfolding words_below
 passing_is_there n test w inside passes = is_kept test (range_with_len 0 n) w (is_number n w inside) passes
@@ -55,6 +59,7 @@ pub record IsPassed (test : ℕ → Bool) : Type 0 where
   pub fits : word < 2 ^ 32
   pub passes : test word ≡ true
 
+-- a test that passes some word has one that passes
 pub passed : (test : ℕ → Bool) → passes_some test ≡ true → IsPassed test
 unfolding passes_some
 passed test some =
@@ -66,6 +71,7 @@ passed test some =
       passes = words_pass (2 ^ 32) test (get_or (words_below (2 ^ 32) test) 0 0) first;
     }
 
+-- a word that passes shows that some does
 pub passes_from : (test : ℕ → Bool) (w : ℕ) → w < 2 ^ 32 → test w ≡ true → passes_some test ≡ true
 unfolding passes_some
 passes_from test w word passes =

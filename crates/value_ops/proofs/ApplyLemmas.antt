@@ -148,10 +148,12 @@ pub applied_is : (t : List ℕ) (op : Op) (a b : Value) → IsThresholds t → I
 unfolding apply
 applied_is t op a b is oa ob = by_carry (carried_of op) t op a b is oa ob
 
+-- what is a result of an operation is what the function gives
 pub applied_is_one : (t : List ℕ) (op : Op) (a b v : Value) → IsThresholds t → IsOver t a → IsOver t b → IsApplied t op a b v → v ≡ apply t op a b
 unfolding apply
 applied_is_one t op a b v is oa ob s = by_carry_one (carried_of op) t op a b v is oa ob s
 
+-- an operation with a carry is two steps, and any other one
 pub applied_by_carry : (o : Option Op) (t : List ℕ) (op : Op) (a b v : Value) → o ≡ carried_of op
     → MatchOption o (IsStep t op a b v) (λ base. IsTwice t base a b v) → IsApplied t op a b v
 applied_by_carry o t op a b v same s = subst (λ (p : Option Op). MatchOption p (IsStep t op a b v) (λ base. IsTwice t base a b v)) same s
@@ -163,24 +165,29 @@ over_by_carry (Some base) t op a b v oa ob s = step_over t base s.between carry_
 
 -- the function, by tests
 
+-- what the function gives is a result of the operation
 pub apply_is : (t : List ℕ) (op : Op) (a b : Value) → IsThresholds t → is_over t a ≡ true → is_over t b ≡ true → IsApplied t op a b (apply t op a b)
 apply_is t op a b is over_a over_b = applied_is t op a b is ((over_decides t a).0 over_a) ((over_decides t b).0 over_b)
 
+-- what is a result of an operation is what the function gives, by the tests
 pub apply_is_one : (t : List ℕ) (op : Op) (a b v : Value) → IsThresholds t → is_over t a ≡ true → is_over t b ≡ true → IsApplied t op a b v → v ≡ apply t op a b
 apply_is_one t op a b v is over_a over_b s = applied_is_one t op a b v is ((over_decides t a).0 over_a) ((over_decides t b).0 over_b) s
 
+-- the function gives values over the thresholds
 pub apply_over : (t : List ℕ) (op : Op) (a b : Value) → IsThresholds t → is_over t a ≡ true → is_over t b ≡ true → is_over t (apply t op a b) ≡ true
 apply_over t op a b is over_a over_b =
     (over_decides t (apply t op a b)).1
     (over_by_carry (carried_of op) t op a b (apply t op a b) ((over_decides t a).0 over_a) ((over_decides t b).0 over_b)
     (apply_is t op a b is over_a over_b))
 
+-- the result for words of the sides, with any carry, is one of the function's
 pub apply_covers : (t : List ℕ) (op : Op) (a b : Value) (carry : Bool) (x y ra : ℕ) → IsThresholds t → is_over t a ≡ true → is_over t b ≡ true → x < 2 ^ 32
     → y < 2 ^ 32 → ra < 2 ^ 32 → Has a x ra → Has b y ra → Has (apply t op a b) (result_of op carry x y) ra
 apply_covers t op a b carry x y ra is over_a over_b xw yw address has_x has_y =
     applied_covers t op a b (apply t op a b) carry x y ra ((over_decides t a).0 over_a) ((over_decides t b).0 over_b)
     (apply_is t op a b is over_a over_b) xw yw address has_x has_y
 
+-- lesser sides over more thresholds have a lesser result
 pub apply_falls : (t more : List ℕ) (op : Op) (a b c d : Value) → IsThresholds t → IsThresholds more → AreMore t more → is_over t a ≡ true
     → is_over t b ≡ true → is_over more c ≡ true → is_over more d ≡ true → is_at_most c a ≡ true → is_at_most d b ≡ true
     → is_at_most (apply more op c d) (apply t op a b) ≡ true

@@ -70,6 +70,7 @@ shift_in : (by : ℕ → Span → Span) (of : ℕ → ℕ → ℕ) (o : Option �
 shift_in by of None a x y one each = in_all (of x y)
 shift_in by of (Some n) a x y one each = subst (λ (m : ℕ). IsIn (by (n % 32) a) (of x m)) (sym (one n refl)) (each n)
 
+-- a row has the result for words of its sources
 pub row_covers : (op : Op) (o : Option ℕ) (a b : Span) (carry : Bool) (x y : ℕ) → a.high < 2 ^ 32 → b.high < 2 ^ 32 → x < 2 ^ 32 → y < 2 ^ 32 → IsIn a x
     → IsIn b y → ((n : ℕ) → o ≡ Some n → y ≡ n) → IsIn (row_of op o a b) (result_of op carry x y)
 row_covers Add o a b carry x y fa fb xw yw in_a in_b one = in_sums a b x y xw yw in_a in_b
@@ -187,6 +188,7 @@ computed_over t op (Words xs) Ret v s = s.span.over
 computed_over t op (Range lo hi) b v s = s.span.over
 computed_over t op Ret b v s = s.span.over
 
+-- an operation that reads no carry gives a value over the thresholds
 pub step_over : (t : List ℕ) (op : Op) (a b v : Value) → IsOver t a → IsOver t b → IsStep t op a b v → IsOver t v
 step_over t op a b v over_a over_b step =
     elim (step_cases t op a b v step) [
@@ -229,6 +231,7 @@ twice_covers t op a b v carry x y ra twice xw yw address has_x has_y =
     step_covers t op twice.between (Words (0 ∷ 1 ∷ [])) v (result_of op false x y) (bit_of carry) ra twice.second (result_is_word op false x y xw yw)
     (bit_is_word carry) address (step_covers t op a b twice.between x y ra twice.first xw yw address has_x has_y) (has_carry carry)
 
+-- the result for words of the sides, with any carry, is one of the result
 pub applied_covers : (t : List ℕ) (op : Op) (a b v : Value) (carry : Bool) (x y ra : ℕ) → IsOver t a → IsOver t b → IsApplied t op a b v → x < 2 ^ 32
     → y < 2 ^ 32 → ra < 2 ^ 32 → Has a x ra → Has b y ra → Has v (result_of op carry x y) ra
 applied_covers t Add a b v carry x y ra over_a over_b step xw yw address has_x has_y = step_covers t Add a b v x y ra step xw yw address has_x has_y
@@ -333,6 +336,7 @@ ends_widen t (Range lo hi) c low high least greatest va oc below ends fits fille
     (omega (arith, inside, wide), omega (arith, inside, wide))
 ends_widen t Ret c low high least greatest va oc below ends fits filled wide = (omega (arith, wide), omega (arith, wide))
 
+-- the ends of a value are in order
 pub ends_filled : (v : Value) (low high : ℕ) → IsValue v → AreEnds v low high → low ≤ high
 ends_filled (Words []) low high value ends = absurd (omega (arith, value.some))
 ends_filled (Words (w ∷ rest)) low high value ends = let between = ends.between w (0, omega arith, refl) in omega (arith, between)
@@ -459,6 +463,7 @@ step_is_monotone t more op a b c d v u in_more oa ob oc od left right wide narro
           ]
     ]
 
+-- the set of 0 and 1 is over any thresholds
 pub carry_over : (t : List ℕ) → IsOver t (Words (0 ∷ 1 ∷ []))
 carry_over t = record { value = carry_set; ends = tt }
 
@@ -479,11 +484,13 @@ applied_by None t more op a b c d v u in_more oa ob oc od left right wide narrow
 applied_by (Some base) t more op a b c d v u in_more oa ob oc od left right wide narrow = twice_is_monotone t more base a b
     c d v u in_more oa ob oc od left right wide narrow
 
+-- of lesser sides, over more thresholds, a result is at most what it was
 pub applied_is_monotone : (t more : List ℕ) (op : Op) (a b c d v u : Value) → AreMore t more → IsOver t a → IsOver t b → IsOver more c → IsOver more d
     → AtMost c a → AtMost d b → IsApplied t op a b v → IsApplied more op c d u → AtMost u v
 applied_is_monotone t more op a b c d v u in_more oa ob oc od left right wide narrow = applied_by (carried_of op) t more op a b
     c d v u in_more oa ob oc od left right wide narrow
 
+-- what covers 0 and 1 is the set of both
 pub carry_is : (t : List ℕ) (v : Value) → IsLeast t (Contains (0 ∷ 1 ∷ [])) v → v ≡ Words (0 ∷ 1 ∷ [])
 carry_is t v least =
     same_value v (Words (0 ∷ 1 ∷ [])) least.over.value carry_set

@@ -44,10 +44,12 @@ has_pair op (w ∷ xs) ys zero x y within at has =
 has_pair op (w ∷ xs) ys (suc k) x y within at has =
     Contains-append_right (map (result_of op false w) ys) (results op xs ys) (result_of op false x y) (has_pair op xs ys k x y (omega arith) at has)
 
+-- the result of a pair is among the listed ones
 pub pairs_are_results : (op : Op) (xs ys : List ℕ) (w : ℕ) → IsPointwise op xs ys w → Contains (results op xs ys) w
 pairs_are_results op xs ys w pair = subst (Contains (results op xs ys)) (sym pair.is)
     (has_pair op xs ys pair.left.0 pair.first pair.second pair.left.1 pair.left.2 pair.right)
 
+-- what covers the listed results is the least value with the result of each pair
 pub pointwise_is_least : (t : List ℕ) (op : Op) (xs ys : List ℕ) (v : Value) → IsLeast t (Contains (results op xs ys)) v → IsLeast t (IsPointwise op xs ys) v
 pointwise_is_least t op xs ys v least = least_of_same t (Contains (results op xs ys)) (IsPointwise op xs ys) v
     (λ w word has. results_are_pairs op xs ys w has) (λ w word pair. pairs_are_results op xs ys w pair) least

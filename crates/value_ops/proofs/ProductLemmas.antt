@@ -130,6 +130,7 @@ product_place : (q key times : ℕ) → key + 2 ^ 32 * times ≡ q + 2 ^ 62 → 
     → place_of (q % 2 ^ 32) + (2 ^ 62 - 2 ^ 31) ≡ key
 product_place q key times is low high = omega arith
 
+-- a product of words is in the row of products
 pub in_products : (a b : Span) (x y : ℕ) → a.high < 2 ^ 32 → b.high < 2 ^ 32 → x < 2 ^ 32 → y < 2 ^ 32 → IsIn a x → IsIn b y
     → IsIn (products a b) (product_of x y)
 in_products a b x y fits_a fits_b xw yw in_a in_b =
@@ -176,6 +177,7 @@ in_wider a b c d fits_a fits_b filled_c filled_d wider_c wider_d =
     (in_box a b c.low d.low fits_a fits_b low_c low_d) (in_box a b c.low d.high fits_a fits_b low_c high_d)
     (in_box a b c.high d.low fits_a fits_b high_c low_d) (in_box a b c.high d.high fits_a fits_b high_c high_d)
 
+-- the row of products widens with its sides
 pub products_widen : (a b c d : Span) → a.high < 2 ^ 32 → b.high < 2 ^ 32 → IsFilled c → IsFilled d → IsWider c a → IsWider d b
     → IsWider (products c d) (products a b)
 products_widen a b c d fits_a fits_b filled_c filled_d wider_c wider_d =

@@ -15,6 +15,7 @@ pub record IsIn (s : Span) (w : ℕ) : Type 0 where
   pub above : s.low ≤ place_of w
   pub below : place_of w ≤ s.high
 
+-- each word is among all
 pub in_all : (w : ℕ) → IsIn all w
 in_all w = record { above = omega arith; below = omega arith }
 
@@ -23,6 +24,7 @@ sum_place : (x y : ℕ) → x < 2 ^ 32 → y < 2 ^ 32 → 2 ^ 31 ≤ place_of x 
     → place_of (sum_of x y false) + 2 ^ 31 ≡ place_of x + place_of y
 sum_place x y x_word y_word low high = omega arith
 
+-- a sum of words is in the row of sums
 pub in_sums : (a b : Span) (x y : ℕ) → x < 2 ^ 32 → y < 2 ^ 32 → IsIn a x → IsIn b y → IsIn (sums a b) (sum_of x y false)
 in_sums a b x y x_word y_word in_a in_b =
     cond_both (nat_le (2 ^ 31) (a.low + b.low) && nat_lt (a.high + b.high) (2 ^ 31 + 2 ^ 32))
@@ -40,6 +42,7 @@ difference_place : (x y : ℕ) → x < 2 ^ 32 → y < 2 ^ 32 → place_of y ≤ 
     → place_of (difference_of x y false) + place_of y ≡ place_of x + 2 ^ 31
 difference_place x y x_word y_word low high = omega arith
 
+-- a difference of words is in the row of differences
 pub in_differences : (a b : Span) (x y : ℕ) → x < 2 ^ 32 → y < 2 ^ 32 → IsIn a x → IsIn b y → IsIn (differences a b) (difference_of x y false)
 in_differences a b x y x_word y_word in_a in_b =
     cond_both (nat_le b.high (a.low + 2 ^ 31) && nat_lt (a.high + 2 ^ 31) (b.low + 2 ^ 32))
@@ -64,6 +67,7 @@ not_negative w word up = omega arith
 below_not_negative : (v w : ℕ) → w < 2 ^ 32 → 2 ^ 31 ≤ place_of w → v ≤ w → (2 ^ 31 ≤ place_of v) × (place_of v ≤ place_of w)
 below_not_negative v w word up low = let is : place_of w ≡ w + 2 ^ 31 = not_negative w word up in (omega arith, omega arith)
 
+-- a conjunction of words is in the row of conjunctions
 pub in_conjunctions : (a b : Span) (x y : ℕ) → x < 2 ^ 32 → y < 2 ^ 32 → IsIn a x → IsIn b y → IsIn (conjunctions a b) (bit_and x y)
 in_conjunctions a b x y x_word y_word in_a in_b =
     let left : 2 ^ 31 ≤ a.low
@@ -86,6 +90,7 @@ in_conjunctions a b x y x_word y_word in_a in_b =
     (λ up_b. let r = right (leb-true (2 ^ 31) b.low up_b) in record { above = r.0; below = omega (arith, r.1, in_b.below) })
     (λ no. in_all (bit_and x y)))
 
+-- a conjunction with any word is in the row of the left side
 pub in_left_conjunctions : (a : Span) (x y : ℕ) → x < 2 ^ 32 → IsIn a x → IsIn (left_conjunctions a) (bit_and x y)
 in_left_conjunctions a x y x_word in_a =
     cond_both (nat_le (2 ^ 31) a.low) (record { low = 2 ^ 31; high = a.high }) all (λ (s : Span). IsIn s (bit_and x y))
@@ -205,6 +210,7 @@ shifted_place n x word fits =
           product_up (x * 2 ^ n) bound ∙ sym value
     ]
 
+-- a word shifted left is in the row of shifts
 pub in_left_shifts : (n : ℕ) (a : Span) (x : ℕ) → x < 2 ^ 32 → IsIn a x → IsIn (left_shifts n a) (x * 2 ^ n % 2 ^ 32)
 in_left_shifts n a x word in_a =
     cond_both (scales n a.low && scales n a.high) (record { low = scaled n a.low; high = scaled n a.high }) all (λ (s : Span). IsIn s (x * 2 ^ n % 2 ^ 32))
@@ -215,6 +221,7 @@ in_left_shifts n a x word in_a =
     record { above = rw is (scaled_rises n a.low (place_of x) in_a.above); below = rw is (scaled_rises n (place_of x) a.high in_a.below) })
     (λ no. in_all (x * 2 ^ n % 2 ^ 32))
 
+-- a word shifted right is in the row of shifts
 pub in_right_shifts : (n : ℕ) (a : Span) (x : ℕ) → n < 32 → x < 2 ^ 32 → IsIn a x → IsIn (right_shifts n a) (x / 2 ^ n)
 in_right_shifts n a x count word in_a =
     cond_both (nat_le (2 ^ 31) a.low) (record { low = 2 ^ 31 + (a.low - 2 ^ 31) / 2 ^ n; high = 2 ^ 31 + (a.high - 2 ^ 31) / 2 ^ n })
@@ -247,6 +254,7 @@ signed_place n x count =
     let half : 2 ^ 31 / 2 ^ n ≤ 2 ^ 31 = div-le_self (2 ^ 31) (2 ^ n) in
     back_to_place (place_of x / 2 ^ n) (2 ^ 31 / 2 ^ n) bound half
 
+-- a word shifted with its sign is in the row of such shifts
 pub in_signed_shifts : (n : ℕ) (a : Span) (x : ℕ) → n < 32 → IsIn a x → IsIn (signed_shifts n a) (shifted_at n (place_of x))
 in_signed_shifts n a x count in_a =
     let is : place_of (shifted_at n (place_of x)) ≡ place_of x / 2 ^ n + 2 ^ 31 - 2 ^ 31 / 2 ^ n = signed_place n x count in
@@ -259,6 +267,7 @@ pub record IsWider (s wide : Span) : Type 0 where
   pub low : wide.low ≤ s.low
   pub high : s.high ≤ wide.high
 
+-- all words are wider than any span
 pub all_is_wider : (s : Span) → s.high < 2 ^ 32 → IsWider s all
 all_is_wider s fits = record { low = omega arith; high = omega arith }
 
@@ -273,6 +282,7 @@ sums_fit c d =
     ))
     (λ no. omega arith)
 
+-- the row of sums widens with its sides
 pub sums_widen : (a b c d : Span) → IsFilled a → IsFilled b → IsFilled c → IsFilled d → IsWider c a → IsWider d b → IsWider (sums c d) (sums a b)
 sums_widen a b c d fa fb fc fd wa wb =
     cond_both (nat_le (2 ^ 31) (a.low + b.low) && nat_lt (a.high + b.high) (2 ^ 31 + 2 ^ 32))
@@ -300,6 +310,7 @@ differences_fit c d =
     ))
     (λ no. omega arith)
 
+-- the row of differences widens with its sides
 pub differences_widen : (a b c d : Span) → IsFilled a → IsFilled b → IsFilled c → IsFilled d → IsWider c a → IsWider d b
     → IsWider (differences c d) (differences a b)
 differences_widen a b c d fa fb fc fd wa wb =
@@ -345,6 +356,7 @@ conjunctions_right c d up =
     (λ no_c. rw (cond-true {A = Span} (nat_le (2 ^ 31) d.low) (record { low = 2 ^ 31; high = d.high }) all (le-leb (2 ^ 31) d.low up))
     (omega arith, omega arith))
 
+-- the row of conjunctions widens with its sides
 pub conjunctions_widen : (a b c d : Span) → c.high < 2 ^ 32 → d.high < 2 ^ 32 → IsWider c a → IsWider d b → IsWider (conjunctions c d) (conjunctions a b)
 conjunctions_widen a b c d fc fd wa wb =
     let left : 2 ^ 31 ≤ a.low → (2 ^ 31 ≤ (conjunctions c d).low) × ((conjunctions c d).high ≤ c.high) = λ up. conjunctions_left c d (omega (arith, wa.low)) in
@@ -364,6 +376,7 @@ conjunctions_widen a b c d fc fd wa wb =
     (λ up_b. let r = right (leb-true (2 ^ 31) b.low up_b) in record { low = r.0; high = omega (arith, r.1, wb.high) })
     (λ no. all_is_wider (conjunctions c d) (conjunctions_fit c d fc fd)))
 
+-- the row of the left side widens with it
 pub left_conjunctions_widen : (a c : Span) → c.high < 2 ^ 32 → IsWider c a → IsWider (left_conjunctions c) (left_conjunctions a)
 left_conjunctions_widen a c fc wa =
     cond_both (nat_le (2 ^ 31) a.low) (record { low = 2 ^ 31; high = a.high }) all (λ (s : Span). IsWider (left_conjunctions c) s)
@@ -381,11 +394,13 @@ scaled_fits n k fits =
       | inr up ↦ omega (arith, scaled_up n k up, scales_up n k fits up)
     ]
 
+-- shifts to the left stay within 32 bits
 pub left_shifts_fit : (n : ℕ) (c : Span) → (left_shifts n c).high < 2 ^ 32
 left_shifts_fit n c =
     cond_both (scales n c.low && scales n c.high) (record { low = scaled n c.low; high = scaled n c.high }) all (λ (s : Span). s.high < 2 ^ 32)
     (λ fits. scaled_fits n c.high ((and_parts (scales n c.low) (scales n c.high) fits).1)) (λ no_c. omega arith)
 
+-- the row of shifts to the left widens with its side
 pub left_shifts_widen : (n : ℕ) (a c : Span) → IsFilled c → IsWider c a → IsWider (left_shifts n c) (left_shifts n a)
 left_shifts_widen n a c fc wa =
     cond_both (scales n a.low && scales n a.high) (record { low = scaled n a.low; high = scaled n a.high }) all (λ (s : Span). IsWider (left_shifts n c) s)
@@ -409,6 +424,7 @@ front_zeros n k some count small =
 zeros_fit : (n : ℕ) → 1 ≤ n → 2 ^ (32 - n) ≤ 2 ^ 31
 zeros_fit n some = let fewer : 32 - n ≤ 31 = omega arith in pow-le-pow_right {n = 2} (omega arith) {i = 32 - n} {j = 31} fewer
 
+-- shifts to the right stay within 32 bits
 pub right_shifts_fit : (n : ℕ) (c : Span) → c.high < 2 ^ 32 → (right_shifts n c).high < 2 ^ 32
 right_shifts_fit n c fc =
     cond_both (nat_le (2 ^ 31) c.low) (record { low = 2 ^ 31 + (c.low - 2 ^ 31) / 2 ^ n; high = 2 ^ 31 + (c.high - 2 ^ 31) / 2 ^ n })
@@ -419,6 +435,7 @@ right_shifts_fit n c fc =
     (λ none. omega arith)
     (λ some. omega (arith, zeros_fit n (positive_from n (eqb-false n 0 some)))))
 
+-- the row of shifts to the right widens with its side
 pub right_shifts_widen : (n : ℕ) (a c : Span) → n < 32 → IsFilled c → c.high < 2 ^ 32 → IsWider c a → IsWider (right_shifts n c) (right_shifts n a)
 right_shifts_widen n a c count filled fc wa =
     cond_both (nat_le (2 ^ 31) a.low) (record { low = 2 ^ 31 + (a.low - 2 ^ 31) / 2 ^ n; high = 2 ^ 31 + (a.high - 2 ^ 31) / 2 ^ n })
@@ -443,11 +460,13 @@ right_shifts_widen n a c count filled fc wa =
     (λ down_c. rw (cond-false (nat_eq n 0) all (record { low = 2 ^ 31; high = 2 ^ 31 + 2 ^ (32 - n) - 1 }) some)
     (record { low = omega arith; high = omega arith }))))
 
+-- the row of shifts with sign widens with its side
 pub signed_shifts_widen : (n : ℕ) (a c : Span) → IsWider c a → IsWider (signed_shifts n c) (signed_shifts n a)
 signed_shifts_widen n a c wa =
     let lower : a.low / 2 ^ n ≤ c.low / 2 ^ n = div_rises a.low c.low (2 ^ n) (pow_pos n) wa.low in
     let upper : c.high / 2 ^ n ≤ a.high / 2 ^ n = div_rises c.high a.high (2 ^ n) (pow_pos n) wa.high in
     record { low = omega arith; high = omega arith }
 
+-- shifts with sign stay within 32 bits
 pub signed_shifts_fit : (n : ℕ) (c : Span) → n < 32 → c.high < 2 ^ 32 → (signed_shifts n c).high < 2 ^ 32
 signed_shifts_fit n c count fc = omega (arith, half_more n c.high count fc)

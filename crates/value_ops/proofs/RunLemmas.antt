@@ -51,6 +51,7 @@ sum_split a b w k m word a_fits b_fits k_up k_down m_up m_down is =
       is = sum_at k m w (omega arith) (omega arith) word is;
     }
 
+-- the sums of all words of two spans are all words of a span
 pub sums_are_run : (a b s : Span) → IsFilled a → IsFilled b → a.high < 2 ^ 32 → b.high < 2 ^ 32 → s.low + 2 ^ 31 ≡ a.low + b.low
     → s.high + 2 ^ 31 ≡ a.high + b.high → s.high < 2 ^ 32 → IsRunOf Add a b s
 sums_are_run a b s a_filled b_filled a_fits b_fits low high fits = record {
@@ -81,6 +82,7 @@ difference_split a b w k m word a_fits b_fits k_up k_down m_up m_down is =
       is = difference_at k m w (omega arith) (omega arith) word is;
     }
 
+-- the differences of all words of two spans are all words of a span
 pub differences_are_run : (a b s : Span) → IsFilled a → IsFilled b → a.high < 2 ^ 32 → b.high < 2 ^ 32 → s.low + b.high ≡ a.low + 2 ^ 31
     → s.high + b.low ≡ a.high + 2 ^ 31 → s.high < 2 ^ 32 → IsRunOf Sub a b s
 differences_are_run a b s a_filled b_filled a_fits b_fits low high fits = record {

@@ -109,6 +109,7 @@ mirror_is equality signed unsigned x y xw yw =
       back false true h = refl
       back false false h = sym h
 
+-- condition 6 tests whether the first is less
 pub sign_is_less : (condition : ℕ) → condition ≡ 6 → IsTest condition Less
 sign_is_less condition six = record { is = λ x y xw yw none. rw six (negative_is_less x y xw (none six)) }
 
@@ -138,6 +139,7 @@ asked_of condition truth b f below is =
       disagree false true = (λ h. refl, λ h. refl)
       disagree false false = (λ h. sym h, λ h. sym h)
 
+-- what a condition asks is its relation, or that it doesn't hold
 pub asked : (condition : ℕ) (truth : Bool) (relation : Relation) → condition < 16 → IsTest (condition % 8) relation
     → IsAsked condition truth (record { relation = relation; holds = beq truth (ltb condition 8) })
 asked condition truth relation below test = record {

@@ -14,6 +14,7 @@ use Rattle.value_refine.specs.Refinement.{IsPossible, IsWithin, IsRefined, is_le
 use Rattle.word_ops.specs.Condition.{holds_of}
 use Rattle.word_ops.specs.Flags.{difference_flags_of}
 
+-- words that make the condition so are in what is left
 pub refined_covers : (t : List ℕ) (condition : ℕ) (truth : Bool) (a b : Value) (r : Option Value) (x y ra : ℕ) → IsRefined t condition truth a b r
     → x < 2 ^ 32 → y < 2 ^ 32 → ra < 2 ^ 32 → Has a x ra → Has b y ra → holds_of condition (difference_flags_of x y false) ≡ truth → HasSome r x ra
 refined_covers t condition truth a b r x y ra refined xw yw address has_x has_y holds =
@@ -23,6 +24,7 @@ refined_covers t condition truth a b r x y ra refined xw yw address has_x has_y 
           (record { has = may_from_has a x ra address has_x; other = y; fits = yw; there = may_from_has b y ra address has_y; is = holds })
     ]
 
+-- what is left is one
 pub refined_is_one : (t : List ℕ) (condition : ℕ) (truth : Bool) (a b : Value) (r s : Option Value) → IsRefined t condition truth a b r
     → IsRefined t condition truth a b s → r ≡ s
 refined_is_one t condition truth a b r s one other =
@@ -53,6 +55,7 @@ rest_is_less t more condition truth a c d (Some u) in_more over no_ret left leas
     least.least a (over_more t more a in_more.thresholds over)
     (record { words = λ w ra word address is. has_any a w ra no_ret (may_have_more c a w word left is.has) })
 
+-- of less, over more thresholds, less is left of what isn't the return address
 pub refined_is_monotone : (t more : List ℕ) (condition : ℕ) (truth : Bool) (a b c d : Value) (r s : Option Value) → AreMore t more → IsOver t a → IsOver t b
     → IsOver more c → IsOver more d → (a ≡ Ret → ⊥) → AtMost c a → AtMost d b → IsRefined t condition truth a b r → IsRefined more condition truth c d s
     → IsLess s r
@@ -76,6 +79,7 @@ refined_is_monotone t more condition truth a b c d r s in_more oa ob oc od no_re
           ]
     ]
 
+-- of less, over more thresholds, less is left between two places
 pub within_monotone : (t more : List ℕ) (low high : ℕ) (a c : Value) (r s : Option Value) → AreMore t more → AtMost c a
     → IsLeastOrNone t (IsWithin a low high) r → IsLeastOrNone more (IsWithin c low high) s → IsLess s r
 within_monotone t more low high a c r s in_more left wide narrow =
@@ -104,11 +108,13 @@ none_possible : (t : List ℕ) (condition : ℕ) (truth : Bool) (a b : Value) (r
 none_possible t condition truth a b r rest never refined =
     least_is_one t (IsPossible condition truth a b) r None (refined.rest rest) (λ w word is. never w is.other is.is)
 
+-- a condition that always holds leaves what isn't the return address as it is
 pub always_keeps : (t : List ℕ) (a b : Value) (r : Option Value) → IsOver t a → IsOver t b → (a ≡ Ret → ⊥)
     → (IsRefined t 8 true a b r ⊎ IsRefined t 0 false a b r) → r ≡ Some a
 always_keeps t a b r oa ob no_ret (inl refined) = all_possible t 8 true a b r oa ob no_ret refl (λ x y. refl) refined
 always_keeps t a b r oa ob no_ret (inr refined) = all_possible t 0 false a b r oa ob no_ret refl (λ x y. refl) refined
 
+-- a condition that never holds leaves nothing
 pub never_keeps : (t : List ℕ) (a b : Value) (r : Option Value) → (IsRefined t 8 false a b r ⊎ IsRefined t 0 true a b r) → r ≡ None
 never_keeps t a b r (inl refined) = none_possible t 8 false a b r refl (λ x y is. true≢false is) refined
 never_keeps t a b r (inr refined) = none_possible t 0 true a b r refl (λ x y is. false≢true is) refined
@@ -123,6 +129,7 @@ sign_is_of_zero condition right y rest may six =
       | inr some ↦ absurd (true≢false (rw (six, some) at rest))
     ]
 
+-- a word of a value between two places is in what is left
 pub within_covers : (t : List ℕ) (low high : ℕ) (a : Value) (r : Option Value) (x ra : ℕ) → IsLeastOrNone t (IsWithin a low high) r → x < 2 ^ 32 → ra < 2 ^ 32
     → Has a x ra → IsBetween low high x → HasSome r x ra
 within_covers t low high a r x ra least word address has between = covered_some t (IsWithin a low high) r x ra least word address
@@ -142,6 +149,7 @@ same_refined t condition other truth a b r rest other_rest same refined = record
       (refined.rest rest);
 }
 
+-- against 0 the condition on the sign leaves what that on the order does
 pub sign_is_order_against_zero : ((x y : ℕ) → x < 2 ^ 32 → y ≡ 0 → holds_of 6 (difference_flags_of x y false) ≡ holds_of 3 (difference_flags_of x y false))
     → (t : List ℕ) (truth : Bool) (a : Value) (r : Option Value)
     → (IsRefined t 6 truth a (Words (0 ∷ [])) r ↔ IsRefined t 3 truth a (Words (0 ∷ [])) r) ×

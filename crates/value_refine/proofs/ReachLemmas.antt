@@ -26,12 +26,15 @@ use Rattle.value_refine.proofs.RefineLemmas.{least_place, greatest_place}
 pub less_than_some : (i : Interval) (k : ℕ) → i.low ≤ i.high → (k < i.high) ↔ IsOrdered true true i k
 less_than_some i k up = (λ below. inr (lt-ltb k i.high below), λ some. ⊎_elim (λ h. omega (arith, ltb-true k i.low h)) (λ h. ltb-true k i.high h) some)
 
+-- what is at least the lower end of an interval isn't less than each of it
 pub not_less_than_some : (i : Interval) (k : ℕ) → i.low ≤ i.high → (i.low ≤ k) ↔ IsOrdered true false i k
 not_less_than_some i k up = (λ above. inl (le-ltb k i.low above), λ some. ⊎_elim (λ h. ltb-false k i.low h) (λ h. omega (arith, ltb-false k i.high h)) some)
 
+-- what is at most the upper end of an interval is at most one of it
 pub at_most_some : (i : Interval) (k : ℕ) → i.low ≤ i.high → (k ≤ i.high) ↔ IsOrdered false true i k
 at_most_some i k up = (λ below. inr (le-leb k i.high below), λ some. ⊎_elim (λ h. omega (arith, leb-true k i.low h)) (λ h. leb-true k i.high h) some)
 
+-- what is above the lower end of an interval isn't at most each of it
 pub above_some : (i : Interval) (k : ℕ) → i.low ≤ i.high → (i.low < k) ↔ IsOrdered false false i k
 above_some i k up = (λ above. inl (lt-leb k i.low above), λ some. ⊎_elim (λ h. leb-false k i.low h) (λ h. omega (arith, leb-false k i.high h)) some)
 
@@ -49,6 +52,7 @@ pub record IsOrderedWith (reading : ℕ → ℕ) (strict holds : Bool) (v : Valu
   pub there : MayHave v other
   pub is : orders strict (reading x) (reading other) ≡ holds
 
+-- what is ordered with some word of a value is so with its ends
 pub ordered_by_ends : (reading : ℕ → ℕ) (strict holds : Bool) (v : Value) (i : Interval) (x : ℕ) → AreEndsBy reading v i
     → IsOrdered strict holds i (reading x) ↔ IsOrderedWith reading strict holds v x
 ordered_by_ends reading strict holds v i x ends =
@@ -64,16 +68,19 @@ pub reached_less : (holds : Bool) (v : Value) (x : ℕ) → IsOrderedWith by_pla
 reached_less holds v x =
     (λ o. record { other = o.other; fits = o.fits; there = o.there; is = o.is }, λ o. record { other = o.other; fits = o.fits; there = o.there; is = o.is })
 
+-- what reaches a value by at most, with sign
 pub reached_less_or_equal : (holds : Bool) (v : Value) (x : ℕ)
     → IsOrderedWith by_place false holds v x ↔ IsReached (record { relation = LessOrEqual; holds = holds }) v x
 reached_less_or_equal holds v x =
     (λ o. record { other = o.other; fits = o.fits; there = o.there; is = o.is }, λ o. record { other = o.other; fits = o.fits; there = o.there; is = o.is })
 
+-- what reaches a value by less, without sign
 pub reached_less_unsigned : (holds : Bool) (v : Value) (x : ℕ)
     → IsOrderedWith by_word true holds v x ↔ IsReached (record { relation = LessUnsigned; holds = holds }) v x
 reached_less_unsigned holds v x =
     (λ o. record { other = o.other; fits = o.fits; there = o.there; is = o.is }, λ o. record { other = o.other; fits = o.fits; there = o.there; is = o.is })
 
+-- what reaches a value by at most, without sign
 pub reached_less_or_equal_unsigned : (holds : Bool) (v : Value) (x : ℕ)
     → IsOrderedWith by_word false holds v x ↔ IsReached (record { relation = LessOrEqualUnsigned; holds = holds }) v x
 reached_less_or_equal_unsigned holds v x =

@@ -53,6 +53,7 @@ least_possible : (t : List ℕ) (condition : ℕ) (truth : Bool) (a b : Value) �
 least_possible t condition truth a b is = least_of_kind t (is_possible condition truth a b) (IsPossible condition truth a b) is
     (λ w word e. possible condition truth a b w word e) (λ w word h. from_possible condition truth a b w word h)
 
+-- what `refine` gives is what is left
 pub refine_is : (t : List ℕ) (condition : ℕ) (truth : Bool) (a b : Value) → IsThresholds t → IsRefined t condition truth a b (refine t condition truth a b)
 unfolding refine
 refine_is t condition truth a b is = record {
@@ -61,11 +62,13 @@ refine_is t condition truth a b is = record {
       (sym (cond-false (is_left_alone condition b) (Some a) (least_of t (is_possible condition truth a b)) e)) (least_possible t condition truth a b is);
 }
 
+-- what is left is what `refine` gives
 pub refine_one : (t : List ℕ) (condition : ℕ) (truth : Bool) (a b : Value) (r : Option Value) → IsThresholds t → IsRefined t condition truth a b r
     → r ≡ refine t condition truth a b
 refine_one t condition truth a b r is refined = refined_is_one t condition truth a b r (refine t condition truth a b) refined
     (refine_is t condition truth a b is)
 
+-- what `within` gives is what is left between two places
 pub within_is : (t : List ℕ) (a : Value) (low high : ℕ) → IsThresholds t → IsLeastOrNone t (IsWithin a low high) (within t a low high)
 unfolding within
 within_is t a low high is =
@@ -74,6 +77,7 @@ within_is t a low high is =
     { has = (may_have_decides a w word).0 parts.0; between = (placed_decides low high w).0 parts.1 })
     (λ w word h. and_from (may_have a w) (is_placed low high w) ((may_have_decides a w word).1 h.has) ((placed_decides low high w).1 h.between))
 
+-- what is left between two places is what `within` gives
 pub within_one : (t : List ℕ) (a : Value) (low high : ℕ) (r : Option Value) → IsThresholds t → IsLeastOrNone t (IsWithin a low high) r → r ≡ within t a low high
 within_one t a low high r is least = least_is_one t (IsWithin a low high) r (within t a low high) least (within_is t a low high is)
 
@@ -82,6 +86,7 @@ least_over : (t : List ℕ) (kind : ℕ → Type 0) (r : Option Value) → IsLea
 least_over t kind None none = refl
 least_over t kind (Some v) least = (over_decides t v).1 least.over
 
+-- what `refine` gives is over the thresholds
 pub refine_over : (t : List ℕ) (condition : ℕ) (truth : Bool) (a b : Value) → IsThresholds t → is_over t a ≡ true
     → is_over_or_none t (refine t condition truth a b) ≡ true
 unfolding refine
@@ -90,6 +95,7 @@ refine_over t condition truth a b is over =
     (λ alone. over)
     (λ rest. least_over t (IsPossible condition truth a b) (least_of t (is_possible condition truth a b)) (least_possible t condition truth a b is))
 
+-- what `within` gives is over the thresholds
 pub within_over : (t : List ℕ) (a : Value) (low high : ℕ) → IsThresholds t → is_over_or_none t (within t a low high) ≡ true
 within_over t a low high is = least_over t (IsWithin a low high) (within t a low high) (within_is t a low high is)
 
@@ -97,6 +103,7 @@ within_over t a low high is = least_over t (IsWithin a low high) (within t a low
 not_ret : (a : Value) → is_ret a ≡ false → a ≡ Ret → ⊥
 not_ret a words same = true≢false (sym (subst (λ (v : Value). is_ret v ≡ true) (sym same) refl) ∙ words)
 
+-- what `refine` gives is at most a left side that isn't the return address
 pub refine_left : (t : List ℕ) (condition : ℕ) (truth : Bool) (a b : Value) → IsThresholds t → is_over t a ≡ true → is_ret a ≡ false
     → is_less (refine t condition truth a b) (Some a) ≡ true
 unfolding refine
@@ -109,6 +116,7 @@ refine_left t condition truth a b is over words =
     (λ rest. is_less_from_least t t (IsPossible condition truth a b) (MayHave a) (Some a) (least_of t (is_possible condition truth a b)) same
     (λ w word may. may.has) all (least_possible t condition truth a b is))
 
+-- what `within` gives is at most a value that isn't the return address
 pub within_left : (t : List ℕ) (a : Value) (low high : ℕ) → IsThresholds t → is_over t a ≡ true → is_ret a ≡ false
     → is_less (within t a low high) (Some a) ≡ true
 within_left t a low high is over words =
@@ -124,6 +132,7 @@ refine_address t condition truth a b words =
     cond_both (is_left_alone condition b) (Some a) (least_of t (is_possible condition truth a b)) (λ (r : Option Value). is_some_ret r ≡ false)
     (λ alone. words) (λ rest. least_is_no_ret t (is_possible condition truth a b))
 
+-- `within` never gives the return address
 pub within_address : (t : List ℕ) (a : Value) (low high : ℕ) → is_some_ret (within t a low high) ≡ false
 unfolding within
 within_address t a low high = least_is_no_ret t (is_within a low high)
@@ -133,6 +142,7 @@ some_value : (t : List ℕ) (r : Option Value) (v : Value) → is_over_or_none t
 some_value t r v over is = let found : is_over t v ≡ true = subst (λ (s : Option Value). is_over_or_none t s ≡ true) is over in
     ((over_decides t v).0 found).value
 
+-- lesser sides over more thresholds leave less
 pub refine_falls : (t more : List ℕ) (condition : ℕ) (truth : Bool) (a b c d : Value) → IsThresholds t → IsThresholds more → AreMore t more
     → is_over t a ≡ true → is_over t b ≡ true → is_over more c ≡ true → is_over more d ≡ true → is_ret a ≡ false → is_at_most c a ≡ true
     → is_at_most d b ≡ true → is_less (refine more condition truth c d) (refine t condition truth a b) ≡ true
@@ -144,6 +154,7 @@ refine_falls t more condition truth a b c d is is_more in_more over_a over_b ove
     ((over_decides t b).0 over_b) ((over_decides more c).0 over_c) ((over_decides more d).0 over_d) (not_ret a words)
     (ordered c a left).up (ordered d b right).up (refine_is t condition truth a b is) (refine_is more condition truth c d is_more))
 
+-- a lesser value over more thresholds has less between two places
 pub within_falls : (t more : List ℕ) (a c : Value) (low high : ℕ) → IsThresholds t → IsThresholds more → AreMore t more → is_at_most c a ≡ true
     → is_less (within more c low high) (within t a low high) ≡ true
 within_falls t more a c low high is is_more in_more left =
@@ -153,11 +164,13 @@ within_falls t more a c low high is is_more in_more left =
     (within_monotone t more low high a c (within t a low high) (within more c low high) in_more (ordered c a left).up (within_is t a low high is)
     (within_is more c low high is_more))
 
+-- words that make the condition so are in what `refine` gives
 pub refine_covers : (t : List ℕ) (condition : ℕ) (truth : Bool) (a b : Value) (x y ra : ℕ) → IsThresholds t → x < 2 ^ 32 → y < 2 ^ 32 → ra < 2 ^ 32
     → Has a x ra → Has b y ra → holds_of condition (difference_flags_of x y false) ≡ truth → HasSome (refine t condition truth a b) x ra
 refine_covers t condition truth a b x y ra is xw yw address has_x has_y holds = refined_covers t condition truth a b (refine t condition truth a b) x y ra
     (refine_is t condition truth a b is) xw yw address has_x has_y holds
 
+-- a word of a value between two places is in what `within` gives
 pub within_has : (t : List ℕ) (a : Value) (low high x ra : ℕ) → IsThresholds t → x < 2 ^ 32 → ra < 2 ^ 32 → Has a x ra → IsBetween low high x
     → HasSome (within t a low high) x ra
 within_has t a low high x ra is word address has between = within_covers t low high a (within t a low high) x ra

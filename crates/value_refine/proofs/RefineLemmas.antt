@@ -41,6 +41,7 @@ least_place (Range lo hi) low high value ends fits =
     record { address = 0; fits = omega arith; has = (omega (arith, ends), omega (arith, ends, value)) }
 least_place Ret low high value ends fits = record { address = word_at low; fits = word_at_below low; has = refl }
 
+-- a value may have the word at its upper end
 pub greatest_place : (v : Value) (low high : ℕ) → IsValue v → AreEnds v low high → high < 2 ^ 32 → MayHave v (word_at high)
 greatest_place (Words words) low high value ends fits = record { address = 0; fits = omega arith; has = ends.greatest }
 greatest_place (Range lo hi) low high value ends fits =
@@ -61,6 +62,7 @@ chosen_none kind words = record {
   all = λ k d below. absurd (omega arith);
 }
 
+-- one word more is kept
 pub chosen_more : (kind : ℕ → Type 0) (words kept : List ℕ) (i : ℕ) → i < length words → kind (get_or words i 0) → IsChosen kind words kept i
     → IsChosen kind words (kept ++ get_or words i 0 ∷ []) (i + 1)
 chosen_more kind words kept i within is chosen = record {
@@ -76,6 +78,7 @@ chosen_more kind words kept i within is chosen = record {
       ];
 }
 
+-- one word more is left out
 pub chosen_less : (kind : ℕ → Type 0) (words kept : List ℕ) (i : ℕ) → i < length words → (kind (get_or words i 0) → ⊥) → IsChosen kind words kept i
     → IsChosen kind words kept (i + 1)
 chosen_less kind words kept i within isnt chosen = record {
@@ -104,6 +107,7 @@ pub answer_of_same : {E : Type 0} (t : List ℕ) (kind other : ℕ → Type 0) (
 answer_of_same t kind other r there back answer = IfOk-weaker r (IsLeastOrNone t kind) (IsLeastOrNone t other)
     (λ o. least_or_none_of_same t kind other o there back) answer
 
+-- a range within a region is the region between its ends
 pub restricted_range : (lo hi : ℤ) (region both : Region) (places : Interval) (w : ℕ) → AreEnds (Range lo hi) places.low places.high
     → IsInRegion both w ↔ (IsInRegion region w × IsIn places (place_of w)) → IsInRegion both w → IsRestricted (Range lo hi) region w
 restricted_range lo hi region both places w ends is_both is =

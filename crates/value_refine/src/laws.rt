@@ -18,7 +18,7 @@ pub fn refinement_is_covered()
     ensures { RefinementIsCovered }
 {}
 
-/// Of less, and over more thresholds, what is left is at most what it was.
+/// Of less, and over more thresholds, what is left of a left side that isn't the return address is at most what it was.
 pub fn refinement_is_monotone()
     ensures { RefinementIsMonotone }
 {}
@@ -35,7 +35,7 @@ pub fn refinement_is_one()
     ensures { RefinementIsOne }
 {}
 
-/// The condition that always is true leaves all or none.
+/// The condition that always is true, or is false, leaves all of a left side that isn't the return address, or nothing.
 pub fn constants_are_kept()
     ensures { ConstantsAreKept }
 {}
@@ -60,8 +60,9 @@ pub fn refine_is_one()
     ensures { RefineIsOne }
 {}
 
-/// What `refine` as a function gives is at most the left side, the return address only where that is, and of less,
-/// and over more thresholds, at most what it was.
+/// What `refine` as a function gives is over the thresholds, and the return address only where the left side is. Where that
+/// isn't the return address, what is given is at most the left side, and of less, and over more thresholds, at most what it
+/// was.
 pub fn refine_is_monotone()
     ensures { RefineIsMonotone }
 {}

@@ -42,8 +42,10 @@ loop-row-preserved c =
           next_read all c.loop-row.list.items row rest c.in_ok-assertion.assertion c.loop-row.invariant.few
           (c.loop-row.invariant.same ∙ ap (decided c.loop-row.list.items) c.in-Some.ensures.row) c.in_ok-assertion.ensures.value
           ∙ ap (λ (l : List Assertion). decided l rest) (sym {A = List Assertion} items);
-      few = (let longer : length c.push.new.self.items ≡ length c.loop-row.list.items + 1 = ap length items ∙ length-append c.loop-row.list.items (c.in_ok-assertion.assertion ∷ []) in omega arith);
+      few = (let longer : length c.push.new.self.items ≡ length c.loop-row.list.items + 1 =
+          ap length items ∙ length-append c.loop-row.list.items (c.in_ok-assertion.assertion ∷ []) in omega arith);
       sound = subst (All AssertsWithin) (sym {A = List Assertion} items)
-          (All-append AssertsWithin c.loop-row.list.items (c.in_ok-assertion.assertion ∷ []) c.loop-row.invariant.sound (All-cons AssertsWithin c.in_ok-assertion.assertion [] c.in_ok-assertion.ensures.within (All-nil AssertsWithin)));
+          (All-append AssertsWithin c.loop-row.list.items (c.in_ok-assertion.assertion ∷ []) c.loop-row.invariant.sound
+          (All-cons AssertsWithin c.in_ok-assertion.assertion [] c.in_ok-assertion.ensures.within (All-nil AssertsWithin)));
       within = (let shorter = c.in-Some.ensures.shorter in omega arith);
     }

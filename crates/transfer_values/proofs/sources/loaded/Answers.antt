@@ -7,7 +7,8 @@ use Rattle.transfer_values.proofs.sources.loaded.Goals as goal
 pub returns-in_ok-addresses-in-Words : goal.returns-in_ok-addresses-in-Words
 returns-in_ok-addresses-in-Words c =
     subst (λ (o : Option Value). IfOk c.loaded_from.result (λ r. r ≡ o))
-    (loaded_words c.args.t.now c.args.image.now c.in-Words.words c.members.result.now c.in_ok-addresses-in-Words.addresses.items c.as_slice.result.now c.args.address.now
+    (loaded_words c.args.t.now c.args.image.now c.in-Words.words c.members.result.now c.in_ok-addresses-in-Words.addresses.items
+    c.as_slice.result.now c.args.address.now
     c.in-Words.is c.members.ensures.words c.in_ok-addresses-in-Words.ensures c.as_slice.ensures.value) c.loaded_from.ensures
 
 pub returns-in-Range : goal.returns-in-Range

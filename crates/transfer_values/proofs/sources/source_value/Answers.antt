@@ -29,7 +29,8 @@ returns-in_ok-ranged-in-Ranged c =
 
 pub returns-in_ok-applied-in-Applied : goal.returns-in_ok-applied-in-Applied
 returns-in_ok-applied-in-Applied c =
-    source_applied c.args.t.now c.args.image.now c.args.state.now c.args.source c.in_ok-applied-in-Applied.field-0 c.in-Applied.op c.in-Applied.left c.in-Applied.right
+    source_applied c.args.t.now c.args.image.now c.args.state.now c.args.source c.in_ok-applied-in-Applied.field-0 c.in-Applied.op c.in-Applied.left
+    c.in-Applied.right
     c.in-Applied.is c.in_ok-applied-in-Applied.ensures.value
 
 pub returns-in_ok-address-in-Loaded : goal.returns-in_ok-address-in-Loaded

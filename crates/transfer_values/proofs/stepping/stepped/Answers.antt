@@ -12,7 +12,8 @@ returns-then-not-write-clause-value c =
 pub returns-then-not-write-2-clause-value : goal.returns-then-not-write-2-clause-value
 returns-then-not-write-2-clause-value c =
     stops_second c.args.t.now c.args.image.now c.args.step c.args.state c.in_ok-first.first c.write.result c.write.new.state c.in_ok-first.ensures.outcome
-    c.write.ensures c.in_ok-second.second c.write-2.result c.write-2.new.state c.if-not-write.false c.in_ok-second.ensures.outcome c.write-2.ensures c.if-not-write-2.true
+    c.write.ensures c.in_ok-second.second c.write-2.result c.write-2.new.state c.if-not-write.false c.in_ok-second.ensures.outcome c.write-2.ensures
+    c.if-not-write-2.true
 
 pub returns-clause-value : goal.returns-clause-value
 returns-clause-value c =

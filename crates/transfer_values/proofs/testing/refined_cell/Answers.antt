@@ -13,7 +13,8 @@ refine-requires-clause-left c =
 
 pub refine-requires-clause-right : goal.refine-requires-clause-right
 refine-requires-clause-right c =
-    subst (IsOver c.args.t.now) (sym c.in_ok-right.ensures) (operand_is_over c.args.t.now c.args.state.now c.args.other c.are_thresholds.ensures c.requires.over)
+    subst (IsOver c.args.t.now) (sym c.in_ok-right.ensures)
+    (operand_is_over c.args.t.now c.args.state.now c.args.other c.are_thresholds.ensures c.requires.over)
 
 pub returns-clause-words : goal.returns-clause-words
 returns-clause-words c =

@@ -20,7 +20,8 @@ loop-round-preserved c = record {
 
 pub returns-clause-settled : goal.returns-clause-settled
 returns-clause-settled c =
-    let all : c.loop-round._round ≡ length c.args.graph.now = omega (arith, c.loop-round-test.false, c.loop-round.auto._round-end, c.count-count.ensures.count) in
+    let all : c.loop-round._round ≡ length c.args.graph.now =
+    omega (arith, c.loop-round-test.false, c.loop-round.auto._round-end, c.count-count.ensures.count) in
     settled_covered (is_edge c.args.graph.now) c.args.head (steps_of c.args.ups.now c.args.downs.now)
     (length c.args.graph.now) c.count-count.ensures.graph.within c.requires.balanced c.loop-round.labels
     c.loop-round.invariant.found (subst (CoversWalks (is_edge c.args.graph.now) c.args.head

@@ -8,7 +8,12 @@ use Rattle.value_lattice.specs.Value.{IsOver}
 use Rattle.abs_state.proofs.state.AbsState.entry.Goals as goal
 
 pub loop-c-preserved : goal.loop-c-preserved
-loop-c-preserved c = rw (map-range_with_len_more entry_cell 0 c.loop-c.c c.loop-c.c (omega arith), ← c.loop-c.invariant, ← c.in_ok-entry_cell.ensures) c.in_ok-push.ensures.items
+loop-c-preserved c = rw (
+  map-range_with_len_more entry_cell 0 c.loop-c.c c.loop-c.c
+      (omega arith),
+  ← c.loop-c.invariant,
+  ← c.in_ok-entry_cell.ensures,
+) c.in_ok-push.ensures.items
 
 pub invariant_of-result : goal.invariant_of-result
 invariant_of-result c = subst IsState (sym (entry_from_loop _ _ c.loop-c.invariant (omega arith))) entry_is_state
