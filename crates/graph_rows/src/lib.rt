@@ -15,4 +15,6 @@ mod nests;
 #[cfg(test)]
 mod turns;
 #[cfg(test)]
+mod walking;
+#[cfg(test)]
 mod walks;

@@ -1,5 +1,6 @@
 -- Keys have one text, and the lines of each of them stand in it.
-use Rattle.std.proofs.Common.{◌≡◌, ℕ, suc, zero, ◌<◌, true, false, List, [], ◌∷◌, ◌++◌, map, length, get_or, cond, refl, ap, sym, ◌∙◌, subst, arith, append_assoc, codes}
+use Rattle.std.proofs.Common.{◌≡◌, ℕ, suc, zero, ◌<◌, true, false, List, [], ◌∷◌, ◌++◌, map, length, get_or, cond, refl, ap, sym, ◌∙◌, subst, arith}
+use Rattle.std.proofs.Common.{append_assoc, codes}
 use Rattle.std.specs.List.{filter, flat_map}
 use Rattle.std.specs.Prelude.{◌==◌, Bool, Contains}
 use Rattle.std.proofs.lemmas.Bool.Decides.{nat_tests}
@@ -37,6 +38,7 @@ text_from image keys returning lists subs first middle text are_of are is_first 
           ∙ append_assoc (codes "boundt graph 1\n") (flat_map (sub_text image returning keys) subs) (codes "end\n");
     }
 
+-- keys have at most one text
 pub graph_text_is_one : GraphTextIsOne
 graph_text_is_one image keys returning one other text also =
     let subs : text.subs ≡ also.subs =
@@ -119,6 +121,7 @@ module _ (line head places steps calls points : List ℕ) where
       behind line (places ++ (steps ++ (calls ++ points))) head
       (behind line (steps ++ (calls ++ points)) places (behind line (calls ++ points) steps (behind line points calls has)))
 
+-- the line of each program point, and of its subprogram, stands in the text
 pub graph_text_has_places : GraphTextHasPlaces
 graph_text_has_places image keys returning text place graph has =
     let whole : HasWithin (sub_text image returning keys place.sub) text = sub_within image keys returning text place graph has in
@@ -127,33 +130,40 @@ graph_text_has_places image keys returning text place graph has =
           (itself (sub_line image returning place.sub)
           (part_text (flat_map place_in keys) (flat_map step_in keys) (flat_map calling_in keys) (flat_map open_in keys) place.sub)) whole,
       inside (place_line place) (sub_text image returning keys place.sub) text
-          (in_first (place_line place) (sub_line image returning place.sub) (places_text keys place.sub) (steps_text keys place.sub) (calls_text keys place.sub) (opens_text keys place.sub)
+          (in_first (place_line place) (sub_line image returning place.sub) (places_text keys place.sub) (steps_text keys place.sub)
+          (calls_text keys place.sub) (opens_text keys place.sub)
           (in_list place_line (of_one place_sub place.sub (flat_map place_in keys)) place (kept place_sub (flat_map place_in keys) place there))) whole,
     )
 
+-- the line of each step stands in the text
 pub graph_text_has_steps : GraphTextHasSteps
 graph_text_has_steps image keys returning text from to graph node has =
     let step : Step = record { from = from; to = to } in
     let there : Contains (flat_map step_in keys) step = ((keys_stand_in_lists keys).steps from to).0 has in
     inside (step_line step) (sub_text image returning keys from.sub) text
-    (in_second (step_line step) (sub_line image returning from.sub) (places_text keys from.sub) (steps_text keys from.sub) (calls_text keys from.sub) (opens_text keys from.sub)
+    (in_second (step_line step) (sub_line image returning from.sub) (places_text keys from.sub) (steps_text keys from.sub) (calls_text keys from.sub)
+    (opens_text keys from.sub)
     (in_list step_line (of_one step_sub from.sub (flat_map step_in keys)) step (kept step_sub (flat_map step_in keys) step there)))
     (sub_within image keys returning text from graph node)
 
+-- the line of each call stands in the text
 pub graph_text_has_calls : GraphTextHasCalls
 graph_text_has_calls image keys returning text from callee graph node has =
     let call : Calling = record { from = from; callee = callee } in
     let there : Contains (flat_map calling_in keys) call = ((keys_stand_in_lists keys).callings from callee).0 has in
     inside (call_line call) (sub_text image returning keys from.sub) text
-    (in_third (call_line call) (sub_line image returning from.sub) (places_text keys from.sub) (steps_text keys from.sub) (calls_text keys from.sub) (opens_text keys from.sub)
+    (in_third (call_line call) (sub_line image returning from.sub) (places_text keys from.sub) (steps_text keys from.sub) (calls_text keys from.sub)
+    (opens_text keys from.sub)
     (in_list call_line (of_one calling_sub from.sub (flat_map calling_in keys)) call (kept calling_sub (flat_map calling_in keys) call there)))
     (sub_within image keys returning text from graph node)
 
+-- the line of each open point stands in the text
 pub graph_text_has_opens : GraphTextHasOpens
 graph_text_has_opens image keys returning text place pc why graph node has =
     let point : OpenPoint = record { sub = place.sub; pc = pc; why = why } in
     let there : Contains (flat_map open_in keys) point = ((keys_stand_in_lists keys).opens place.sub pc why).0 has in
     inside (open_line point) (sub_text image returning keys place.sub) text
-    (in_fourth (open_line point) (sub_line image returning place.sub) (places_text keys place.sub) (steps_text keys place.sub) (calls_text keys place.sub) (opens_text keys place.sub)
+    (in_fourth (open_line point) (sub_line image returning place.sub) (places_text keys place.sub) (steps_text keys place.sub)
+    (calls_text keys place.sub) (opens_text keys place.sub)
     (in_list open_line (of_one open_sub place.sub (flat_map open_in keys)) point (kept open_sub (flat_map open_in keys) point there)))
     (sub_within image keys returning text place graph node)

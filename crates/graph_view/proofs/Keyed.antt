@@ -45,7 +45,7 @@ below_all p (Call from callee ∷ keys) h = below_all p keys h.1
 below_all p (Summary sub ∷ keys) h = below_all p keys h.1
 below_all p (Gap sub pc why ∷ keys) h = below_all p keys h.1
 
-places_rise : (keys : List Key) → IsStrictlySortedBy compare keys → IsStrictlySortedBy place_cmp (flat_map place_in keys)
+pub places_rise : (keys : List Key) → IsStrictlySortedBy compare keys → IsStrictlySortedBy place_cmp (flat_map place_in keys)
 unfolding IsStrictlySortedBy
 places_rise [] h = tt
 places_rise (Node p ∷ keys) h = (below_all p keys h.0, places_rise keys h.1)

@@ -169,6 +169,7 @@ open_own (Call from callee) = tt
 open_own (Summary sub) = tt
 open_own (Gap sub pc why) = (tt, tt)
 
+-- what is of keys that rise is by rising subprograms
 pub keys_are_owned : KeysAreOwned
 keys_are_owned keys rise = record {
   places = climbs_at place_sub (flat_map place_in keys) (climbs_all place_sub place_in place_down place_own keys rise);

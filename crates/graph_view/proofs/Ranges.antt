@@ -1,5 +1,6 @@
 -- What passes a test stands in one piece of a list where it has neighbours only.
-use Rattle.std.proofs.Common.{◌≡◌, ℕ, zero, suc, ◌+◌, ◌-◌, ◌<◌, ◌≤◌, Bool, true, false, List, [], ◌∷◌, length, take, drop, get_or, cond, refl, ap, sym, ◌∙◌, arith, inl, inr}
+use Rattle.std.proofs.Common.{◌≡◌, ℕ, zero, suc, ◌+◌, ◌-◌, ◌<◌, ◌≤◌, Bool, true, false, List, [], ◌∷◌, length, take, drop, get_or, cond, refl, ap}
+use Rattle.std.proofs.Common.{sym, ◌∙◌, arith, inl, inr}
 use Rattle.std.proofs.lemmas.Bool.{cases_lt}
 use Rattle.std.proofs.lemmas.Bool.Decides.{nat_tests}
 use Rattle.std.specs.List.{filter}
@@ -60,18 +61,22 @@ above_test : (x n : ℕ) → n < x → (x == n) ≡ false
 above_test x n is = grind (arith, nat_tests)
 
 module _ {X : Type 0} (owner : X → ℕ) (xs : List X) (n i : ℕ) where
+  -- before the place owners are below
   pub below_before : IsPartitionPoint (λ y. nat_lt (owner y) n ≡ true) (λ y. nat_lt (owner y) n ≡ false) xs i
       → (k : ℕ) (d : X) → k < i → owner (get_or xs k d) < n
   below_before parted k d less = lt_true (owner (get_or xs k d)) n (parted.0 k d (omega arith) less)
 
+  -- behind the place owners aren't below
   pub below_behind : IsPartitionPoint (λ y. nat_lt (owner y) n ≡ true) (λ y. nat_lt (owner y) n ≡ false) xs i
       → (k : ℕ) (d : X) → i ≤ k → k < length xs → n ≤ owner (get_or xs k d)
   below_behind parted k d low less = lt_false (owner (get_or xs k d)) n (parted.1 k d low less)
 
+  -- before the place owners are at most
   pub up_before : IsPartitionPoint (λ y. nat_le (owner y) n ≡ true) (λ y. nat_le (owner y) n ≡ false) xs i
       → (k : ℕ) (d : X) → k < i → owner (get_or xs k d) ≤ n
   up_before parted k d less = le_true (owner (get_or xs k d)) n (parted.0 k d (omega arith) less)
 
+  -- behind the place owners are above
   pub up_behind : IsPartitionPoint (λ y. nat_le (owner y) n ≡ true) (λ y. nat_le (owner y) n ≡ false) xs i
       → (k : ℕ) (d : X) → i ≤ k → k < length xs → n < owner (get_or xs k d)
   up_behind parted k d low less = le_false (owner (get_or xs k d)) n (parted.1 k d low less)

@@ -1,8 +1,8 @@
 -- The addresses of the calls inside call cycles.
-use Rattle.std.proofs.Common.{◌≡◌, ◌≢◌, ℕ, zero, suc, ◌+◌, ◌<◌, ◌≤◌, ◌⊎◌, inl, inr, Bool, true, List, [], ◌∷◌, ◌++◌, length, get_or, set, map, replicate, take, Option, Some, None, Contains, Vec, Global, refl, sym, ap, ◌∙◌, subst, arith}
+use Rattle.std.proofs.Common.{◌≡◌, ◌≢◌, ◌↔◌, ℕ, zero, suc, ◌+◌, ◌<◌, ◌≤◌, ◌⊎◌, inl, inr, Bool, true, List, [], ◌∷◌, ◌++◌, length, get_or, set, map, replicate, take, Option, Some, None, is_some, Contains, Vec, Global, refl, sym, ap, ◌∙◌, subst, arith}
 use Rattle.std.specs.Prelude.{IfSome}
 use Rattle.std.specs.List.Sorted.{IsStrictlyIncreasing}
-use Rattle.std.proofs.lemmas.Bool.{cases_lt}
+use Rattle.std.proofs.lemmas.Bool.{cases_lt, false≢true}
 use Rattle.std.proofs.lemmas.Bool.Decides.{eqb_tells}
 use Rattle.std.proofs.lemmas.List.{length-map, length-replicate, get_or-set_same, get_or-set_other, map-set}
 use Rattle.bt_base.proofs.Rows.{row_at}
@@ -13,7 +13,7 @@ use Rattle.graph_laws.proofs.Nests.{part-sym, part-trans}
 use Rattle.graph_view.proofs.CallGraphs.{one_at, part_is, part_to, part_at, first_of_more, last_of_more, more_is}
 use Rattle.graph_view.proofs.Stands.{has_from, has_to, has_front, has_back, has_either}
 use Rattle.graph_view.specs.CallGraph.{IsAt, IsCallGraph}
-use Rattle.graph_view.specs.Cycles.{IsCycleCall, AreCycleCalls, IsInCycle, IsInside, row_of, PutsCall, IsNamedCall, AreGathered, IsRisenAt, AreRisen, cycle_row}
+use Rattle.graph_view.specs.Cycles.{IsCycleCall, AreCycleCalls, IsInCycle, AreInside, AreInOne, IsInside, row_of, PutsCall, IsNamedCall, AreGathered, IsRisenAt, AreRisen, cycle_row}
 use Rattle.graph_view.specs.Need.{calls_of, AreCallers}
 use Rattle.graph_view.specs.Sites.{call_address}
 use Rattle.graph_view.specs.declared.lists.Calling.{Calling}
@@ -257,3 +257,36 @@ rows_low rows n low = let size : length (rows_of rows) ≡ length rows = length-
 
 pub risen_up : (first rows : List (List ℕ)) (count fewer : ℕ) → fewer ≤ count → AreRisen first count rows → AreRisen first fewer rows
 risen_up first rows count fewer less risen = record { rising = λ n low. risen.rising n (omega (arith, low, less)); keeps = risen.keeps; adds_none = risen.adds_none }
+
+-- exactly those that lead to each other are in one cycle
+module _ (subs : List ℕ) (callings : List Calling) (graph : List (List ℕ)) (names : List (Option ℕ)) (callers : AreCallers callings subs) (is : IsCallGraph subs callings graph)
+    (parts : AreParts (is_edge graph) (length graph) names) (one other : ℕ) where
+  led_together : AreInOne subs names one other → SamePart (calls_of callings) one other
+  led_together both =
+      let n : ℕ = both.inside.caller.number in
+      let m : ℕ = both.inside.callee.number in
+      subst (λ x. SamePart (calls_of callings) x other) both.inside.caller.at.is
+      (subst (SamePart (calls_of callings) (get_or subs n 0)) both.inside.callee.at.is
+      (part_is subs callings graph callers is n m
+      (part-trans (is_edge graph) n both.name m (part-sym (is_edge graph) both.name n (parts.named n both.name both.inside.caller.named))
+      (parts.named m both.name both.inside.callee.named))))
+
+  in_one : SamePart (calls_of callings) one other → AreInOne subs names one other
+  in_one same =
+      let m : (m : ℕ) × IsAt subs other m = part_at subs callings graph callers is one other same in
+      let n : (n : ℕ) × IsAt subs one n = part_at subs callings graph callers is other one (part-sym (calls_of callings) one other same) in
+      let low : n.0 < length graph = omega (arith, n.1.within, is.count) in
+      let both : AreTogether (name_of names) n.0 m.0 = parts.all n.0 m.0 low (part_to subs callings graph callers is one other n.0 m.0 n.1 m.1 same) in
+      record {
+        name = both.name;
+        inside = record { caller = record { number = n.0; at = n.1; named = both.one }; callee = record { number = m.0; at = m.1; named = both.other } };
+      }
+
+  pub cycles_are_one : AreInOne subs names one other ↔ SamePart (calls_of callings) one other
+  cycles_are_one = (led_together, in_one)
+
+-- a name that two are found to share tells whether they are in one cycle
+pub name_tells : (subs : List ℕ) (names : List (Option ℕ)) (one other : ℕ) (o : Option ℕ) → IfSome o (AreInside subs names one other)
+    → ((name : ℕ) → AreInside subs names one other name → o ≡ Some name) → (is_some o ≡ true) ↔ AreInOne subs names one other
+name_tells subs names one other None is all = (λ e. absurd (false≢true e), λ both. absurd (none_some both.name (all both.name both.inside)))
+name_tells subs names one other (Some n) is all = (λ e. record { name = n; inside = is }, λ both. refl)

@@ -103,6 +103,7 @@ open_only (Summary sub) x has = absurd has
 open_only (Gap sub pc why) x (inl is) = ap open_key is
 open_only (Gap sub pc why) x (inr has) = absurd has
 
+-- each key stands in the list of its kind, and these have nothing else
 pub keys_stand_in_lists : KeysStandInLists
 keys_stand_in_lists keys = record {
   places = λ place. both place_in Node (λ x. inl refl) place_only keys place;

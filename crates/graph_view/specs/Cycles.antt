@@ -1,5 +1,5 @@
 -- The calls inside call cycles.
-use Rattle.std.specs.Prelude.{◌≡◌, ◌≢◌, ◌<◌, ◌⊎◌, ℕ, List, [], length, slice_index_or, Contains}
+use Rattle.std.specs.Prelude.{◌≡◌, ◌≢◌, ◌<◌, ◌⊎◌, ◌↔◌, ℕ, List, [], length, slice_index_or, Contains}
 use Rattle.std.specs.List.Sorted.{IsStrictlyIncreasing}
 use Rattle.std.specs.declared.option.Option.{Option}
 use Rattle.std.specs.declared.option.Option.TheVariants.{None, Some}
@@ -32,10 +32,19 @@ pub record IsInCycle (subs : List ℕ) (names : List (Option ℕ)) (sub name : �
   pub at : IsAt subs sub number
   pub named : name_of names number ≡ Some name
 
+-- two listed subprograms are in the call cycle of this name
+pub record AreInside (subs : List ℕ) (names : List (Option ℕ)) (one other name : ℕ) : Type 0 where
+  pub caller : IsInCycle subs names one name
+  pub callee : IsInCycle subs names other name
+
+-- they are in one call cycle
+pub record AreInOne (subs : List ℕ) (names : List (Option ℕ)) (one other : ℕ) : Type 0 where
+  pub name : ℕ
+  pub inside : AreInside subs names one other name
+
 -- a call is inside the call cycle of this name
-pub record IsInside (subs : List ℕ) (names : List (Option ℕ)) (calling : Calling) (name : ℕ) : Type 0 where
-  pub caller : IsInCycle subs names calling.from.sub name
-  pub callee : IsInCycle subs names calling.callee name
+abbrev pub IsInside : List ℕ → List (Option ℕ) → Calling → ℕ → Type 0
+IsInside subs names calling name = AreInside subs names calling.from.sub calling.callee name
 
 -- the row of a number
 abbrev pub row_of : List (List ℕ) → ℕ → List ℕ
@@ -78,9 +87,10 @@ abbrev pub cycle_row : List (List ℕ) → Option ℕ → List ℕ
 cycle_row rows None = []
 cycle_row rows (Some name) = row_of rows name
 
--- they are, for each subprogram
+-- they are, for each subprogram, and exactly those that lead to each other are in one cycle
 pub record AreCycles (subs : List ℕ) (callings : List Calling) (cycles : Cycles) : Type 0 where
   pub count : length cycles.names.items ≡ length subs
   pub within : (n name : ℕ) → name_of cycles.names.items n ≡ Some name → name < length cycles.calls.items
   pub each : (n : ℕ) → n < length subs
       → AreCycleCalls callings (slice_index_or subs n 0) (cycle_row (rows_of cycles.calls.items) (name_of cycles.names.items n))
+  pub one : (caller callee : ℕ) → AreInOne subs cycles.names.items caller callee ↔ SamePart (calls_of callings) caller callee

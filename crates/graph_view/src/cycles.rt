@@ -1,10 +1,10 @@
 //! The calls inside call cycles.
-ghost use Rattle.std.specs.Prelude.{◌≡◌, ◌<◌, ◌^◌, ◌++◌, [], ◌∷◌, ℕ, true, Contains, IfOk, IfSome, OnOk, Some, length, replicate, slice_set, vec_len};
+ghost use Rattle.std.specs.Prelude.{◌≡◌, ◌<◌, ◌↔◌, ◌^◌, ◌++◌, [], ◌∷◌, ℕ, true, Contains, IfOk, IfSome, OnOk, Some, length, replicate, slice_set, vec_len};
 ghost use Rattle.std.specs.List.Sorted.{IsStrictlyIncreasing};
 ghost use Rattle.bt_base.specs.Graph.{has, rows_of};
 ghost use Rattle.cyclic_parts.specs.Parts.{name_of};
 ghost use Rattle.graph_view.specs.CallGraph.{IsCallGraph};
-ghost use Rattle.graph_view.specs.Cycles.{AreCycles, AreGathered, AreRisen, IsInCycle, IsInside, IsRisenAt, PutsCall, cycle_row, row_of};
+ghost use Rattle.graph_view.specs.Cycles.{AreCycles, AreGathered, AreInOne, AreInside, AreRisen, IsInCycle, IsRisenAt, PutsCall, cycle_row, row_of};
 ghost use Rattle.graph_view.specs.Need.{AreCallers};
 
 use crate::call_graph::place_of;
@@ -37,18 +37,18 @@ fn cycle_of(subs: &[u32], names: &[Option<u32>], sub: u32) -> Option<u32>
     }
 }
 
-/// The name of the call cycle that a call is inside of.
-fn cycle_round(subs: &[u32], names: &[Option<u32>], calling: &Calling) -> Option<u32>
+/// The name of the call cycle that a caller and its callee are both in.
+fn cycle_round(subs: &[u32], names: &[Option<u32>], caller: u32, callee: u32) -> Option<u32>
     requires rising { IsStrictlyIncreasing subs.now }
     requires counted { length subs.now < 2 ^ 32 }
     requires count { length names.now ≡ length subs.now }
-    ensures is { IfSome result (IsInside subs.now names.now calling.now) }
-    ensures all { (name : ℕ) → IsInside subs.now names.now calling.now name → result ≡ Some name }
+    ensures is { IfSome result (AreInside subs.now names.now caller callee) }
+    ensures all { (name : ℕ) → AreInside subs.now names.now caller callee name → result ≡ Some name }
 {
-    let Some(from) = cycle_of(subs, names, calling.from.sub) else {
+    let Some(from) = cycle_of(subs, names, caller) else {
         return None;
     };
-    let Some(to) = cycle_of(subs, names, calling.callee) else {
+    let Some(to) = cycle_of(subs, names, callee) else {
         return None;
     };
     if from == to { Some(from) } else { None }
@@ -79,7 +79,7 @@ fn put_call(
     ensures count { vec_len rows.new ≡ vec_len rows.old }
     ensures puts { OnOk result (PutsCall subs.now names.now calling.now (rows_of rows.old.items) (rows_of rows.new.items)) }
 {
-    match cycle_round(subs, names, calling) {
+    match cycle_round(subs, names, calling.from.sub, calling.callee) {
         Some(name) => push_at(rows, name, address_of(calling)),
         None => Ok(()),
     }
@@ -170,5 +170,15 @@ impl Cycles {
             Some(name) => &self.calls[name as usize],
             None => &[],
         }
+    }
+
+    /// Whether two subprograms, of which those that are listed rise, are in one call cycle.
+    pub(crate) fn has_both(&self, subs: &[u32], caller: u32, callee: u32) -> bool
+        requires rising { IsStrictlyIncreasing subs.now }
+        requires counted { length subs.now < 2 ^ 32 }
+        requires count { vec_len self.now.names ≡ length subs.now }
+        ensures { (result ≡ true) ↔ AreInOne subs.now self.now.names.items caller callee }
+    {
+        cycle_round(subs, &self.names, caller, callee).is_some()
     }
 }

@@ -1,8 +1,9 @@
-ghost use Rattle.std.specs.Prelude.{◌≡◌, ◌<◌, ◌^◌, IfOk, length, map};
+ghost use Rattle.std.specs.Prelude.{◌≡◌, ◌<◌, ◌↔◌, ◌^◌, IfOk, length, map, true};
 ghost use Rattle.std.specs.List.Sorted.{IsStrictlySortedBy};
+ghost use Rattle.graph_laws.specs.Nest.{SamePart};
 ghost use Rattle.graph_view.specs.Cycles.{AreCycleCalls, AreCycles};
 ghost use Rattle.graph_view.specs.Details.{AreDetails};
-ghost use Rattle.graph_view.specs.Need.{AreCounted, AreNeeds, IsNeed};
+ghost use Rattle.graph_view.specs.Need.{AreCounted, AreNeeds, IsNeed, calls_of};
 ghost use Rattle.graph_view.specs.Numbers.{IsStepGraph, place_cmp};
 ghost use Rattle.graph_view.specs.Sites.{AreSites};
 ghost use Rattle.graph_view.specs.Subs.{AreSubs};
@@ -141,6 +142,13 @@ impl View {
             Some(number) => self.cycles.of(number as usize),
             None => unreachable!(),
         }
+    }
+
+    /// Whether a subprogram and one that it calls are in one call cycle: each leads by calls to the other.
+    pub fn is_cyclic(&self, caller: u32, callee: u32) -> bool
+        ensures { (result ≡ true) ↔ SamePart (calls_of self.now.callings) caller callee }
+    {
+        self.cycles.has_both(&self.subs, caller, callee)
     }
 
     /// How many register windows a subprogram needs with all that it calls: the greatest number of nested SAVEs, or

@@ -17,9 +17,11 @@ all_same count a n = elim (cases_lt n count) [
   | inr l ↦ let s : length (replicate count a) ≡ count = length-replicate count a in get_or_past (replicate count a) n a (omega (arith, s, l))
 ]
 
+-- a list of none has no labels
 pub no_labels_yet : (count : ℕ) (labels : List (Option Label)) → labels ≡ replicate count None → NoLabels labels
 no_labels_yet count labels e n = ap (λ (l : List (Option Label)). label_at l n) e ∙ all_same count None n
 
+-- no turn is settled yet
 pub turned_none : (t : Task) (loops : List Loop) (order : List ℕ) (count : ℕ) (laps : List ℕ) (turns : List Turn) → laps ≡ replicate count 0
     → map (λ (one : Turn). one.head) turns ≡ map (λ (one : Loop). one.head) loops → AreTurnedUpTo t loops order 0 laps turns
 turned_none t loops order count laps turns e heads = record {

@@ -1,5 +1,6 @@
 -- The greatest of what the steps from a node ask: at least each, one of them, and the same where all ask the same.
-use Rattle.std.proofs.Common.{◌≡◌, ◌==◌, ◌||◌, ◌⊎◌, ℕ, ◌<◌, ◌≤◌, inl, inr, Bool, true, false, Option, Some, None, List, [], ◌∷◌, cond, refl, sym, ap, ◌∙◌, arith, ltb}
+use Rattle.std.proofs.Common.{◌≡◌, ◌==◌, ◌||◌, ◌⊎◌, ℕ, ◌<◌, ◌≤◌, inl, inr, Bool, true, false, Option, Some, None, List, [], ◌∷◌, cond, refl, sym, ap}
+use Rattle.std.proofs.Common.{◌∙◌, arith, ltb}
 use Rattle.std.proofs.lemmas.Bool.{eq-eqb, ltb-true, ltb-false}
 use Rattle.std.proofs.lemmas.Bool.Decides.{eqb_tells}
 use Rattle.bt_base.specs.Graph.{has}
@@ -19,12 +20,15 @@ pub record IsAsked (cut : ℕ → ℕ) (head : Option ℕ) (laps : ℕ → ℕ) 
   pub there : has nodes node ≡ true
   pub asks : asked cut head laps label (step_to cost node) ≡ Some one
 
+-- what is there is one
 pub some_is : {A : Type 0} {x y : A} → Some x ≡ Some y → x ≡ y
 some_is e = cc
 
+-- a list has its first
 pub has_first : (m : ℕ) (nodes : List ℕ) → has (m ∷ nodes) m ≡ true
 has_first m nodes = ap (λ (b : Bool). b || has nodes m) (eq-eqb m m refl)
 
+-- one of two tests holds where the second does
 pub or_right : (a b : Bool) → b ≡ true → (a || b) ≡ true
 or_right true b h = refl
 or_right false b h = h
@@ -56,6 +60,7 @@ kept_either : (b : Bool) (old new one : Label) → cond b (Some new) (Some old) 
 kept_either true old new one e = inr e
 kept_either false old new one e = inl e
 
+-- the greater of two labels is one of them
 pub greater_either : (old new : Option Label) (one : Label) → greater old new ≡ Some one → (old ≡ Some one) ⊎ (new ≡ Some one)
 greater_either None new one e = inr e
 greater_either (Some old) None one e = inl e
@@ -70,8 +75,14 @@ module _ (cut : ℕ → ℕ) (head : Option ℕ) (laps : ℕ → ℕ) (label : �
   best_start [] start c l = l
   best_start (m ∷ nodes) start c l =
       best_start nodes (greater start (asked cut head laps label (step_to cost m))) c
-      (let g : IsLabel (greater (Some l.one) (asked cut head laps label (step_to cost m))) l.one.cost = greater_old l.one (asked cut head laps label (step_to cost m)) in
-      let h : IsLabel (greater start (asked cut head laps label (step_to cost m))) l.one.cost = record { one = g.one; is = ap (λ (o : Option Label). greater o (asked cut head laps label (step_to cost m))) l.is ∙ g.is; least = g.least } in
+      (let g : IsLabel (greater (Some l.one) (asked cut head laps label (step_to cost m))) l.one.cost =
+      greater_old l.one (asked cut head laps label (step_to cost m)) in
+      let h : IsLabel (greater start (asked cut head laps label (step_to cost m))) l.one.cost =
+      record {
+        one = g.one;
+        is = ap (λ (o : Option Label). greater o (asked cut head laps label (step_to cost m))) l.is ∙ g.is;
+        least = g.least;
+      } in
       more (greater start (asked cut head laps label (step_to cost m))) c l.one.cost l.least h)
 
   -- and what each node asks

@@ -18,13 +18,16 @@ use Rattle.path_bound.specs.Turning.{HoldHeads}
 use Rattle.path_bound.proofs.Ordered.{IsReachedInside, reached_inside}
 use Rattle.path_bound.proofs.Placed.{IsLoopAt, place_reads, head_place}
 
+-- an edge begins at a node of the graph
 pub edge_from : (graph : List (List ℕ)) (n m : ℕ) → is_edge graph n m ≡ true → n < length graph
 edge_from graph n m e = elim (cases_lt n (length graph)) [
   | inl l ↦ l
   | inr l ↦ let f : has [] m ≡ true = ap (λ (x : List ℕ). has x m) (sym (get_or_past graph n [] l)) ∙ e in cc
 ]
 
-module _ (graph : List (List ℕ)) (entry : ℕ) (loops : List Loop) (is : IsLoopNest (is_edge graph) entry loops) (all : (n : ℕ) → n < length graph → IsReached (is_edge graph) entry n) where
+module _ (graph : List (List ℕ)) (entry : ℕ) (loops : List Loop) (is : IsLoopNest (is_edge graph) entry loops)
+    (all : (n : ℕ) → n < length graph → IsReached (is_edge graph) entry n) where
+  -- the loop of a head stands at its place
   pub loop_at : (h : ℕ) → is_head loops h ≡ true → IsLoopAt loops (place_of loops h) h
   loop_at h a = place_reads loops h (ltb-true (place_of loops h) (length loops) (sym (head_place loops h) ∙ a))
 
@@ -40,6 +43,7 @@ module _ (graph : List (List ℕ)) (entry : ℕ) (loops : List Loop) (is : IsLoo
   pub reached : AreReached (is_edge graph) entry
   reached n m e = all n (edge_from graph n m e)
 
+  -- the loops of a nest are loops of the graph
   pub are_loops : AreLoops (is_edge graph) entry (loops_in loops)
   are_loops = equal_loops (is_edge graph) entry (loops_of is.nest) (loops_in loops) (nests_loops (is_edge graph) entry is.nest is.is reached) equal
 
@@ -50,14 +54,18 @@ module _ (graph : List (List ℕ)) (entry : ℕ) (loops : List Loop) (is : IsLoo
         ap (λ (b : Bool). b && is.nest.body m n) t ∙ sym (ap (λ (b : Bool). b && (loops_in loops).body m n) (sym (is.heads m) ∙ t))
   ]
 
+  -- forward walks end
   pub ends : HaveEnds (is_edge graph) (loops_in loops)
   ends nodes next n = sets_end (is_edge graph) entry is.nest is.is nodes
-      (λ k h. let f : HasForwardNext (is_edge graph) (loops_in loops) nodes k = next k h in record { next = f.next; leads = f.leads; forward = same_back k f.next ∙ f.forward; inside = f.inside }) n
+      (λ k h. let f : HasForwardNext (is_edge graph) (loops_in loops) nodes k =
+      next k h in record { next = f.next; leads = f.leads; forward = same_back k f.next ∙ f.forward; inside = f.inside }) n
 
+  -- the nodes of a body are reached inside it
   pub reach : (h n : ℕ) → (loops_in loops).has h ≡ true → (loops_in loops).body h n ≡ true → IsReachedInside (is_edge graph) (loops_in loops) h n
   reach h n a b =
       let c : is.nest.has h ≡ true = is.heads h ∙ a in
-      let r : IsReachedInside (is_edge graph) (loops_of is.nest) h n = reached_inside (is_edge graph) entry is.nest is.is reached h n c (equal.body h n c ∙ b) in
+      let r : IsReachedInside (is_edge graph) (loops_of is.nest) h n =
+      reached_inside (is_edge graph) entry is.nest is.is reached h n c (equal.body h n c ∙ b) in
       record { rest = r.rest; walk = r.walk; forward = on h r.rest r.forward; stays = inside c r.rest r.stays; ends = r.ends }
     where
       on : (k : ℕ) (rest : List ℕ) → IsForward (loops_of is.nest) k rest → IsForward (loops_in loops) k rest
@@ -73,6 +81,7 @@ module _ (graph : List (List ℕ)) (entry : ℕ) (loops : List Loop) (is : IsLoo
       let a = leaves (is_edge graph) heads x y p.there.between p.there.walk in
       let b = leaves (is_edge graph) heads y x p.back.between p.back.walk in (edge_from graph x a.0 a.1, edge_from graph y b.0 b.1)
 
+  -- the nodes of the loops are below the count
   pub below : AreLoopsBelow (length graph) loops
   below = record {
     heads = λ k one e.
@@ -85,6 +94,7 @@ module _ (graph : List (List ℕ)) (entry : ℕ) (loops : List Loop) (is : IsLoo
         (part_edge (is.nest.outer one.head) one.head n ((is.is.body one.head n o.head).0 (sym (o.body n) ∙ h))).1;
   }
 
+  -- each body holds its head
   pub hold : HoldHeads loops
   hold k one e = let o : IsLoopOf is.nest one = is.each k one e in o.body one.head ∙ head_inside (is_edge graph) entry is.nest is.is one.head o.head
 

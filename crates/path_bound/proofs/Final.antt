@@ -1,5 +1,6 @@
 -- What is told is what there is: costs up to the limit, and the walks for which turns stand.
-use Rattle.std.proofs.Common.{◌≡◌, ◌⊎◌, ◌*◌, ◌-◌, ℕ, zero, suc, ◌+◌, ◌<◌, ◌≤◌, inl, inr, Bool, true, false, List, [], ◌∷◌, cond, ltb, refl, sym, ap, ◌∙◌, arith, lit≤}
+use Rattle.std.proofs.Common.{◌≡◌, ◌⊎◌, ◌*◌, ◌-◌, ℕ, zero, suc, ◌+◌, ◌<◌, ◌≤◌, inl, inr, Bool, true, false, List, [], ◌∷◌, cond, ltb, refl, sym, ap}
+use Rattle.std.proofs.Common.{◌∙◌, arith, lit≤}
 use Rattle.std.specs.Prelude.{min}
 use Rattle.std.proofs.lemmas.Bool.{cases_lt, ltb-true}
 use Rattle.std.proofs.Math.Nat.{mul-le-mul_left}
@@ -25,6 +26,7 @@ times_capped (suc a) b l h = elim (cases_lt b l) [
       ap (λ (x : ℕ). min (suc a * x) l) e ∙ omega (arith, p, q)
 ]
 
+-- laps of a capped turn are capped as those of the turn
 pub lap_capped : (a b : ℕ) → cap (a * cap b) ≡ cap (a * b)
 lap_capped a b = times_capped a b limit (lit≤ tt)
 
@@ -37,10 +39,12 @@ AreSame one two [] = Unit {0}
 AreSame one two (n ∷ rest) = (cap (one n) ≡ cap (two n)) × AreSame one two rest
 
 -- tolls with laps that are the same up to the limit
-pub toll_capped : (costs : Costs) (one two : ℕ → ℕ) (n : ℕ) (rest : List ℕ) (x : ℕ) → AreSame one two rest → cap (toll costs one n rest + x) ≡ cap (toll costs two n rest + x)
+pub toll_capped : (costs : Costs) (one two : ℕ → ℕ) (n : ℕ) (rest : List ℕ) (x : ℕ) → AreSame one two rest
+    → cap (toll costs one n rest + x) ≡ cap (toll costs two n rest + x)
 toll_capped costs one two n [] x same = refl
 toll_capped costs one two n (m ∷ rest) x same =
-    summed (costs.node n + costs.edge n m) (one m) (two m) (toll costs one m rest) (toll costs two m rest) x limit same.0 (toll_capped costs one two m rest x same.1)
+    summed (costs.node n + costs.edge n m) (one m) (two m) (toll costs one m rest) (toll costs two m rest) x limit same.0
+    (toll_capped costs one two m rest x same.1)
 
 -- two numbers for each node of a list are the same
 abbrev pub AreEven : (ℕ → ℕ) → (ℕ → ℕ) → List ℕ → Type 0
@@ -51,12 +55,15 @@ AreEven one two (n ∷ rest) = (one n ≡ two n) × AreEven one two rest
 pub toll_same : (costs : Costs) (one two : ℕ → ℕ) (n : ℕ) (rest : List ℕ) → AreEven one two rest → toll costs one n rest ≡ toll costs two n rest
 toll_same costs one two n [] same = refl
 toll_same costs one two n (m ∷ rest) same =
-    ap (λ (p : ℕ). costs.node n + costs.edge n m + p + toll costs one m rest) same.0 ∙ ap (λ (s : ℕ). costs.node n + costs.edge n m + two m + s) (toll_same costs one two m rest same.1)
+    ap (λ (p : ℕ). costs.node n + costs.edge n m + p + toll costs one m rest) same.0
+    ∙ ap (λ (s : ℕ). costs.node n + costs.edge n m + two m + s) (toll_same costs one two m rest same.1)
 
 -- the steps of a collapsed walk cost their toll
-pub steps_toll : (loops : Loops) (bound : ℕ → ℕ) (costs : Costs) (turns : Turns) (n : ℕ) (rest : List ℕ) → steps_cost loops bound costs turns n rest ≡ toll costs (further_cost loops bound turns) n rest
+pub steps_toll : (loops : Loops) (bound : ℕ → ℕ) (costs : Costs) (turns : Turns) (n : ℕ) (rest : List ℕ)
+    → steps_cost loops bound costs turns n rest ≡ toll costs (further_cost loops bound turns) n rest
 steps_toll loops bound costs turns n [] = refl
-steps_toll loops bound costs turns n (m ∷ rest) = ap (λ (s : ℕ). costs.node n + costs.edge n m + further_cost loops bound turns m + s) (steps_toll loops bound costs turns m rest)
+steps_toll loops bound costs turns n (m ∷ rest) =
+    ap (λ (s : ℕ). costs.node n + costs.edge n m + further_cost loops bound turns m + s) (steps_toll loops bound costs turns m rest)
 
 -- what the passes of a head after the first cost, by what its turns cost
 abbrev pub further : Loops → (ℕ → ℕ) → (ℕ → ℕ) → ℕ → ℕ
@@ -66,6 +73,7 @@ further loops bound full n = cond (loops.has n) ((bound n - 1) * full n) 0
 abbrev pub full_next : Task → (ℕ → List ℕ) → (ℕ → ℕ) → ℕ → ℕ
 full_next t walk full h = toll t.costs (further t.loops t.bound full) h (walk h) + move_of t (end_of h (walk h)) h
 
+-- the true cost of a turn
 abbrev pub full_of : Task → (ℕ → List ℕ) → ℕ → ℕ → ℕ
 full_of t walk size h = cond (t.loops.has h) (iterate (λ full n. cond (t.loops.has n) (full_next t walk full n) 0) 0 size h) 0
 
@@ -80,7 +88,8 @@ module _ (t : Task) (rank : ℕ → ℕ) (size : ℕ) (small : (n : ℕ) → ran
   even f g h [] same low = tt
   even f g h (m ∷ rest) same low = (further_same f g m (same m (ltb-true (rank m) (rank h) low.0)), even f g h rest same low.1)
 
-  respects : (f g : ℕ → ℕ) (h : ℕ) → ((m : ℕ) → rank m < rank h → f m ≡ g m) → cond (t.loops.has h) (full_next t walk f h) 0 ≡ cond (t.loops.has h) (full_next t walk g h) 0
+  respects : (f g : ℕ → ℕ) (h : ℕ) → ((m : ℕ) → rank m < rank h → f m ≡ g m)
+      → cond (t.loops.has h) (full_next t walk f h) 0 ≡ cond (t.loops.has h) (full_next t walk g h) 0
   respects f g h same = elim (tells (t.loops.has h)) [
     | inl a ↦
         ap (λ (x : ℕ). cond (t.loops.has h) (x + move_of t (end_of h (walk h)) h) 0)
@@ -103,7 +112,8 @@ module _ (t : Task) (rank : ℕ → ℕ) (size : ℕ) (small : (n : ℕ) → ran
       one n x true = refl
       one n x false = refl
 
-      all : (rest : List ℕ) → AreEven (further t.loops t.bound (λ m. iterate (λ full n. cond (t.loops.has n) (full_next t walk full n) 0) 0 size m)) (further t.loops t.bound (full_of t walk size)) rest
+      all : (rest : List ℕ) → AreEven (further t.loops t.bound (λ m. iterate (λ full n. cond (t.loops.has n) (full_next t walk full n) 0) 0 size m))
+          (further t.loops t.bound (full_of t walk size)) rest
       all [] = tt
       all (n ∷ rest) = (one n (iterate (λ full n. cond (t.loops.has n) (full_next t walk full n) 0) 0 size n) (t.loops.has n), all rest)
 
@@ -120,7 +130,8 @@ module _ (t : Task) (rank : ℕ → ℕ) (size : ℕ) (small : (n : ℕ) → ran
       twice x l = omega arith
   lap_same m (inr b) told = ap (λ (x : ℕ). cap x) (others m b) ∙ sym (ap (λ (c : Bool). cap (cond c ((t.bound m - 1) * full_of t walk size m) 0)) b)
 
-  all_capped : (h : ℕ) → ((m : ℕ) → rank m < rank h → t.loops.has m ≡ true → cost m ≡ cap (full_of t walk size m)) → (rest : List ℕ) → AreInside (λ m. ltb (rank m) (rank h)) rest
+  all_capped : (h : ℕ) → ((m : ℕ) → rank m < rank h → t.loops.has m ≡ true → cost m ≡ cap (full_of t walk size m)) → (rest : List ℕ)
+      → AreInside (λ m. ltb (rank m) (rank h)) rest
       → AreSame laps (further t.loops t.bound (full_of t walk size)) rest
   all_capped h told [] low = tt
   all_capped h told (m ∷ rest) low = (lap_same m (tells (t.loops.has m)) (told m (ltb-true (rank m) (rank h) low.0)), all_capped h told rest low.1)
@@ -135,5 +146,6 @@ module _ (t : Task) (rank : ℕ → ℕ) (size : ℕ) (small : (n : ℕ) → ran
       (all_capped h (λ m r b. told_by k m (omega (arith, r, l)) b) (walk h) o.lower)
       ∙ ap (λ (x : ℕ). cap x) (sym (full_fixed h a)))
 
+  -- the cost that is told is the true one, capped
   pub told_full : (h : ℕ) → t.loops.has h ≡ true → cost h ≡ cap (full_of t walk size h)
   told_full h a = told_by (suc (rank h)) h (omega arith) a

@@ -26,6 +26,7 @@ stable next bottom rank respects (suc k) (suc l) n a b =
 pub goes_forward : (t : Task) (inside : ℕ → Bool) (n m : ℕ) → goes t inside n m ≡ true → is_back t.loops n m ≡ false
 goes_forward t inside n m h = not_false (is_back t.loops n m) (both (inside m) (not (is_back t.loops n m)) h).1
 
+-- a walk that goes on stays inside
 pub goes_inside : (t : Task) (inside : ℕ → Bool) (n m : ℕ) → goes t inside n m ≡ true → inside m ≡ true
 goes_inside t inside n m h = (both (inside m) (not (is_back t.loops n m)) h).0
 
@@ -40,10 +41,12 @@ asked_same cut head laps others label other test cost m labels costs = elim (tel
         let a : cond (test m) (label m) None ≡ cond (test m) (other m) None = ap (λ (o : Option Label). cond (test m) o None) (labels t e) in
         let b : laps m ≡ others m = costs t e in
         ap (λ (o : Option Label). cond (is_end head m) (Some (record { cost = cost m; next = None })) (behind cut laps (step_to cost m) o)) a
-        ∙ ap (λ (l : ℕ). cond (is_end head m) (Some (record { cost = cost m; next = None })) (behind cut (λ _. l) (step_to cost m) (cond (test m) (other m) None))) b
+        ∙ ap (λ (l : ℕ). cond (is_end head m) (Some (record { cost = cost m; next = None }))
+        (behind cut (λ _. l) (step_to cost m) (cond (test m) (other m) None))) b
     | inr t ↦
         ap (λ (x : Bool). cond (is_end head m) (Some (record { cost = cost m; next = None })) (behind cut laps (step_to cost m) (cond x (label m) None))) t
-        ∙ sym (ap (λ (x : Bool). cond (is_end head m) (Some (record { cost = cost m; next = None })) (behind cut others (step_to cost m) (cond x (other m) None))) t)
+        ∙ sym (ap (λ (x : Bool). cond (is_end head m) (Some (record { cost = cost m; next = None }))
+        (behind cut others (step_to cost m) (cond x (other m) None))) t)
   ]
 ]
   where
@@ -54,10 +57,12 @@ asked_same cut head laps others label other test cost m labels costs = elim (tel
 
 module _ (t : Task) (rank : ℕ → ℕ) (size : ℕ) (small : (n : ℕ) → rank n < size)
     (falls : (n m : ℕ) → is_edge t.graph n m ≡ true → is_back t.loops n m ≡ false → rank m < rank n) where
+  -- a true label is what its node asks of the others
   pub label_fixed : (inside : ℕ → Bool) (head : Option ℕ) (laps : ℕ → ℕ) (n : ℕ)
       → labels_by t inside head laps size n ≡ label_next t inside head laps (labels_by t inside head laps size) n
   label_fixed inside head laps n = stable (label_next t inside head laps) None rank
-      (λ f g k same. best_same exact head laps laps (only (goes t inside k) f) (only (goes t inside k) g) (move_of t k) (row_of t k) (start_at head (t.costs.node k))
+      (λ f g k same. best_same exact head laps laps (only (goes t inside k) f) (only (goes t inside k) g) (move_of t k) (row_of t k)
+      (start_at head (t.costs.node k))
       (λ m e. asked_same exact head laps laps f g (goes t inside k) (move_of t k) m
       (λ h u. same m (falls k m e (goes_forward t inside k m h))) (λ h u. refl)))
       size (suc size) n (small n) (let s : rank n < size = small n in omega (arith, s))
@@ -87,5 +92,6 @@ module _ (t : Task) (rank : ℕ → ℕ) (size : ℕ) (small : (n : ℕ) → ran
         apart : (a b : ℕ) → a ≡ b → is_end (Some a) b ≡ false → ⊥
         apart a b s e = let t : is_end (Some a) b ≡ true = eq-eqb a b s in cc
 
+    -- the true laps are what the next ones are made of
     pub laps_fixed : (n : ℕ) → laps_of t size n ≡ laps_next t size (laps_of t size) n
     laps_fixed n = stable (laps_next t size) 0 rank respects_laps size (suc size) n (small n) (let s : rank n < size = small n in omega (arith, s))

@@ -1,5 +1,6 @@
 -- The nodes to which labels lead come before.
-use Rattle.std.proofs.Common.{◌≡◌, ◌==◌, ◌||◌, ℕ, zero, suc, ◌<◌, ◌≤◌, inl, inr, Bool, true, false, Option, Some, None, List, [], ◌∷◌, length, take, get_or, cond, refl, sym, ap, ◌∙◌, arith, Vec, Global}
+use Rattle.std.proofs.Common.{◌≡◌, ◌==◌, ◌||◌, ℕ, zero, suc, ◌<◌, ◌≤◌, inl, inr, Bool, true, false, Option, Some, None, List, [], ◌∷◌, length, take}
+use Rattle.std.proofs.Common.{get_or, cond, refl, sym, ap, ◌∙◌, arith, Vec, Global}
 use Rattle.bt_base.specs.Graph.{has}
 use Rattle.graph_laws.proofs.Stretches.{tells}
 use Rattle.path_bound.specs.declared.choosing.Label.{Label}
@@ -16,11 +17,14 @@ some_eq : {A : Type 0} {x y : A} → Some x ≡ Some y → x ≡ y
 some_eq e = cc
 
 -- a label that leads on is asked for by a step to a node with a label
-asked_next : (cut : ℕ → ℕ) (head : Option ℕ) (laps : ℕ → ℕ) (test : ℕ → Bool) (label : ℕ → Option Label) (step : Step) (one : Label) (m : ℕ) → asked cut head laps (only test label) step ≡ Some one → one.next ≡ Some m
+asked_next : (cut : ℕ → ℕ) (head : Option ℕ) (laps : ℕ → ℕ) (test : ℕ → Bool) (label : ℕ → Option Label) (step : Step) (one : Label) (m : ℕ)
+    → asked cut head laps (only test label) step ≡ Some one → one.next ≡ Some m
     → test m ≡ true
 asked_next cut head laps test label step one m e f = given (is_end head step.to) (test step.to) (label step.to) e refl
   where
-    given : (b c : Bool) (o : Option Label) → cond b (Some (record { cost = step.cost; next = None })) (behind cut laps step (cond c o None)) ≡ Some one → test step.to ≡ c → test m ≡ true
+    given : (b c : Bool) (o : Option Label)
+        → cond b (Some (record { cost = step.cost; next = None })) (behind cut laps step (cond c o None)) ≡ Some one → test step.to ≡ c
+        → test m ≡ true
     given true c o g t = let n : None ≡ one.next = ap (λ (x : Label). x.next) (some_eq g) in let h : None ≡ Some m = n ∙ f in cc
     given false true None g t = cc
     given false true (Some two) g t =
@@ -28,8 +32,10 @@ asked_next cut head laps test label step one m e f = given (is_end head step.to)
         let q : step.to ≡ m = some_eq (n ∙ f) in ap test (sym q) ∙ t
     given false false o g t = cc
 
-best_next : (cut : ℕ → ℕ) (head : Option ℕ) (laps : ℕ → ℕ) (test : ℕ → Bool) (label : ℕ → Option Label) (steps : List Step) (start : Option Label) (one : Label) (m : ℕ)
-    → ((old : Label) → start ≡ Some old → old.next ≡ Some m → test m ≡ true) → best_of cut head laps (only test label) start steps ≡ Some one → one.next ≡ Some m → test m ≡ true
+best_next : (cut : ℕ → ℕ) (head : Option ℕ) (laps : ℕ → ℕ) (test : ℕ → Bool) (label : ℕ → Option Label) (steps : List Step) (start : Option Label)
+    (one : Label) (m : ℕ)
+    → ((old : Label) → start ≡ Some old → old.next ≡ Some m → test m ≡ true) → best_of cut head laps (only test label) start steps ≡ Some one
+    → one.next ≡ Some m → test m ≡ true
 best_next cut head laps test label [] start one m old e f = old one e f
 best_next cut head laps test label (s ∷ steps) start one m old e f =
     best_next cut head laps test label steps (greater start (asked cut head laps (only test label) s)) one m
@@ -55,7 +61,8 @@ all_taken (x ∷ xs) (suc k) m l t = elim (tells (m == x)) [
   | inr h ↦ ap (λ (b : Bool). b || has xs m) h ∙ all_taken xs k m (omega (arith, l)) (sym (ap (λ (b : Bool). b || has (take k xs) m) h) ∙ t)
 ]
 
-module _ (order : List ℕ) (head : Option ℕ) (node : List ℕ) (steps : List (Vec Step Global)) (laps : List ℕ) (labels : List (Option Label)) (passed : ArePassed order head node steps laps labels) where
+module _ (order : List ℕ) (head : Option ℕ) (node : List ℕ) (steps : List (Vec Step Global)) (laps : List ℕ) (labels : List (Option Label))
+    (passed : ArePassed order head node steps laps labels) where
   taken_next : (n m : ℕ) → has order n ≡ true → next_of (label_at labels n) ≡ Some m → has (take (rank_in order n) order) m ≡ true
   taken_next n m h e =
       let at : get_or order (rank_in order n) 0 ≡ n = rank_at order n h in
@@ -75,5 +82,7 @@ module _ (order : List ℕ) (head : Option ℕ) (node : List ℕ) (steps : List 
   pub next_falls : (n m : ℕ) → next_of (label_at labels n) ≡ Some m → rank_in order m < rank_in order n
   next_falls n m e = rank_taken order (rank_in order n) m (taken_next n m (there n m e) e)
 
+  -- the node that a label leads to is placed
   pub next_there : (n m : ℕ) → next_of (label_at labels n) ≡ Some m → has order m ≡ true
-  next_there n m e = all_taken order (rank_in order n) m (let r : rank_in order n < length order = rank_within order n (there n m e) in omega (arith, r)) (taken_next n m (there n m e) e)
+  next_there n m e = all_taken order (rank_in order n) m
+      (let r : rank_in order n < length order = rank_within order n (there n m e) in omega (arith, r)) (taken_next n m (there n m e) e)

@@ -1,5 +1,6 @@
 -- Labels without a limit are at least what they must be, and each is one of these: they say greatest costs.
-use Rattle.std.proofs.Common.{◌≡◌, ◌==◌, ◌&&◌, ◌⊎◌, ◌*◌, ◌-◌, ℕ, ◌+◌, ◌<◌, ◌≤◌, inl, inr, Bool, true, false, not, Option, Some, None, cond, refl, sym, ap, subst, ◌∙◌, arith}
+use Rattle.std.proofs.Common.{◌≡◌, ◌==◌, ◌&&◌, ◌⊎◌, ◌*◌, ◌-◌, ℕ, ◌+◌, ◌<◌, ◌≤◌, inl, inr, Bool, true, false, not, Option, Some, None, cond, refl, sym}
+use Rattle.std.proofs.Common.{ap, subst, ◌∙◌, arith}
 use Rattle.std.specs.Prelude.{unwrap_or}
 use Rattle.std.proofs.lemmas.Bool.{eq-eqb}
 use Rattle.std.proofs.lemmas.Bool.Decides.{eqb_tells}
@@ -33,7 +34,8 @@ ended : (cut : ℕ → ℕ) (head : Option ℕ) (laps : ℕ → ℕ) (label : �
     → asked cut head laps label (step_to cost m) ≡ Some (record { cost = cost m; next = None })
 ended cut head laps label cost m e = ap (λ (b : Bool). cond b (Some (record { cost = cost m; next = None })) (behind cut laps (step_to cost m) (label m))) e
 
-goes_on : (cut : ℕ → ℕ) (head : Option ℕ) (laps : ℕ → ℕ) (label : ℕ → Option Label) (test : ℕ → Bool) (cost : ℕ → ℕ) (m : ℕ) (one : Label) → is_end head m ≡ false → test m ≡ true → label m ≡ Some one
+goes_on : (cut : ℕ → ℕ) (head : Option ℕ) (laps : ℕ → ℕ) (label : ℕ → Option Label) (test : ℕ → Bool) (cost : ℕ → ℕ) (m : ℕ) (one : Label)
+    → is_end head m ≡ false → test m ≡ true → label m ≡ Some one
     → asked cut head laps (only test label) (step_to cost m) ≡ Some (record { cost = cut (cut (cost m + laps m) + one.cost); next = Some m })
 goes_on cut head laps label test cost m one e h l =
     ap (λ (b : Bool). cond b (Some (record { cost = cost m; next = None })) (behind cut laps (step_to cost m) (only test label m))) e
@@ -46,7 +48,8 @@ pub record IsEnding (t : Task) (head : Option ℕ) (n : ℕ) (cost : ℕ → ℕ
   pub ends : is_end head node ≡ true
   pub is : one ≡ record { cost = cost n node; next = None }
 
-pub record IsGoing (t : Task) (cut : ℕ → ℕ) (head : Option ℕ) (laps : ℕ → ℕ) (label : ℕ → Option Label) (test : ℕ → Bool) (cost : ℕ → ℕ → ℕ) (n : ℕ) (one : Label) : Type 0 where
+pub record IsGoing (t : Task) (cut : ℕ → ℕ) (head : Option ℕ) (laps : ℕ → ℕ) (label : ℕ → Option Label) (test : ℕ → Bool) (cost : ℕ → ℕ → ℕ) (n : ℕ)
+    (one : Label) : Type 0 where
   pub node : ℕ
   pub leads : is_edge t.graph n node ≡ true
   pub on : is_end head node ≡ false
@@ -55,14 +58,17 @@ pub record IsGoing (t : Task) (cut : ℕ → ℕ) (head : Option ℕ) (laps : �
   pub there : label node ≡ Some two
   pub is : one ≡ record { cost = cut (cut (cost n node + laps node) + two.cost); next = Some node }
 
-pub chosen_of : (t : Task) (cut : ℕ → ℕ) (head : Option ℕ) (laps : ℕ → ℕ) (label : ℕ → Option Label) (test : ℕ → Bool) (cost : ℕ → ℕ → ℕ) (n : ℕ) (start : Option Label) (one : Label)
+-- a label that is made is what the node or one of its edges asks
+pub chosen_of : (t : Task) (cut : ℕ → ℕ) (head : Option ℕ) (laps : ℕ → ℕ) (label : ℕ → Option Label) (test : ℕ → Bool) (cost : ℕ → ℕ → ℕ) (n : ℕ)
+    (start : Option Label) (one : Label)
     → best_of cut head laps (only test label) start (moves (cost n) (row_of t n)) ≡ Some one
     → (start ≡ Some one) ⊎ (IsEnding t head n cost one ⊎ IsGoing t cut head laps label test cost n one)
 chosen_of t cut head laps label test cost n start one e = elim (best_chosen cut head laps (only test label) (cost n) (row_of t n) start one e) [
   | inl a ↦ inl a
   | inr a ↦ inr (elim (tells (is_end head a.node)) [
     | inl i ↦ inl (record { node = a.node; leads = a.there; ends = i; is = some_is (sym a.asks ∙ ended cut head laps (only test label) (cost n) a.node i) })
-    | inr i ↦ inr (going a i (ap (λ (b : Bool). cond b (Some (record { cost = cost n a.node; next = None })) (behind cut laps (step_to (cost n) a.node) (only test label a.node))) i))
+    | inr i ↦ inr (going a i (ap (λ (b : Bool). cond b (Some (record { cost = cost n a.node; next = None }))
+        (behind cut laps (step_to (cost n) a.node) (only test label a.node))) i))
   ])
 ]
   where
@@ -87,35 +93,47 @@ module _ (t : Task) (whole : ℕ → Bool) (rank : ℕ → ℕ) (size : ℕ) (sm
     (falls : (n m : ℕ) → is_edge t.graph n m ≡ true → is_back t.loops n m ≡ false → rank m < rank n)
     (inner : (h m : ℕ) → t.loops.has h ≡ true → t.loops.body h m ≡ true → (h ≡ m → ⊥) → rank m < rank h)
     (within : (n m : ℕ) → is_edge t.graph n m ≡ true → whole m ≡ true) where
-  fixed : (inside : ℕ → Bool) (head : Option ℕ) (n : ℕ) → through t size inside head n ≡ label_next t inside head (laps_of t size) (through t size inside head) n
+  fixed : (inside : ℕ → Bool) (head : Option ℕ) (n : ℕ)
+      → through t size inside head n ≡ label_next t inside head (laps_of t size) (through t size inside head) n
   fixed inside head n = label_fixed t rank size small falls inside head (laps_of t size) n
 
-  pub going : (inside : ℕ → Bool) (head : Option ℕ) (n m : ℕ) (one : Label) → is_edge t.graph n m ≡ true → is_back t.loops n m ≡ false → inside m ≡ true → is_end head m ≡ false
+  -- an edge along which a walk goes on asks for its label
+  pub going : (inside : ℕ → Bool) (head : Option ℕ) (n m : ℕ) (one : Label) → is_edge t.graph n m ≡ true → is_back t.loops n m ≡ false
+      → inside m ≡ true → is_end head m ≡ false
       → through t size inside head m ≡ Some one → IsLabel (through t size inside head n) (move_of t n m + laps_of t size m + one.cost)
   going inside head n m one e f i o l =
       let b : IsLabel (label_next t inside head (laps_of t size) (through t size inside head) n) (move_of t n m + laps_of t size m + one.cost) =
       best_least exact head (laps_of t size) (only (goes t inside n) (through t size inside head)) (move_of t n) (row_of t n) (start_at head (t.costs.node n)) m
       (record { cost = move_of t n m + laps_of t size m + one.cost; next = Some m }) e
-      (goes_on exact head (laps_of t size) (through t size inside head) (goes t inside n) (move_of t n) m one o (two_true (inside m) (not (is_back t.loops n m)) i (ap not f)) l) in
+      (goes_on exact head (laps_of t size) (through t size inside head) (goes t inside n) (move_of t n) m one o
+      (two_true (inside m) (not (is_back t.loops n m)) i (ap not f)) l) in
       record { one = b.one; is = fixed inside head n ∙ b.is; least = b.least }
 
-  pub ending : (inside : ℕ → Bool) (head : Option ℕ) (n m : ℕ) → is_edge t.graph n m ≡ true → is_end head m ≡ true → IsLabel (through t size inside head n) (move_of t n m)
+  -- an edge to where a walk ends asks for its label
+  pub ending : (inside : ℕ → Bool) (head : Option ℕ) (n m : ℕ) → is_edge t.graph n m ≡ true → is_end head m ≡ true
+      → IsLabel (through t size inside head n) (move_of t n m)
   ending inside head n m e o =
       let b : IsLabel (label_next t inside head (laps_of t size) (through t size inside head) n) (move_of t n m) =
       best_least exact head (laps_of t size) (only (goes t inside n) (through t size inside head)) (move_of t n) (row_of t n) (start_at head (t.costs.node n)) m
-      (record { cost = move_of t n m; next = None }) e (ended exact head (laps_of t size) (only (goes t inside n) (through t size inside head)) (move_of t n) m o) in
+      (record { cost = move_of t n m; next = None }) e
+      (ended exact head (laps_of t size) (only (goes t inside n) (through t size inside head)) (move_of t n) m o) in
       record { one = b.one; is = fixed inside head n ∙ b.is; least = b.least }
 
+  -- a walk that ends anywhere may end at the node itself
   pub starting : (inside : ℕ → Bool) (n : ℕ) → IsLabel (through t size inside None n) (t.costs.node n)
   starting inside n =
       let b : IsLabel (label_next t inside None (laps_of t size) (through t size inside None) n) (t.costs.node n) =
-      best_start exact None (laps_of t size) (only (goes t inside n) (through t size inside None)) (move_of t n) (row_of t n) (start_at None (t.costs.node n)) (t.costs.node n)
+      best_start exact None (laps_of t size) (only (goes t inside n) (through t size inside None)) (move_of t n) (row_of t n)
+      (start_at None (t.costs.node n)) (t.costs.node n)
       (record { one = record { cost = t.costs.node n; next = None }; is = refl; least = omega arith }) in
       record { one = b.one; is = fixed inside None n ∙ b.is; least = b.least }
 
   chosen : (inside : ℕ → Bool) (head : Option ℕ) (n : ℕ) (one : Label) → through t size inside head n ≡ Some one
-      → (start_at head (t.costs.node n) ≡ Some one) ⊎ (IsEnding t head n (move_of t) one ⊎ IsGoing t exact head (laps_of t size) (through t size inside head) (goes t inside n) (move_of t) n one)
-  chosen inside head n one e = chosen_of t exact head (laps_of t size) (through t size inside head) (goes t inside n) (move_of t) n (start_at head (t.costs.node n)) one (sym (fixed inside head n) ∙ e)
+      → (start_at head (t.costs.node n) ≡ Some one)
+      ⊎ (IsEnding t head n (move_of t) one
+      ⊎ IsGoing t exact head (laps_of t size) (through t size inside head) (goes t inside n) (move_of t) n one)
+  chosen inside head n one e = chosen_of t exact head (laps_of t size) (through t size inside head) (goes t inside n) (move_of t) n
+      (start_at head (t.costs.node n)) one (sym (fixed inside head n) ∙ e)
 
   pub laps_are : (n : ℕ) → laps_cost t.loops t.bound (labels_of t whole size) n ≡ laps_of t size n
   laps_are n =
@@ -167,12 +185,19 @@ module _ (t : Task) (whole : ℕ → Bool) (rank : ℕ → ℕ) (size : ℕ) (sm
     node = λ n. free_node whole n;
     rest = λ n m e f. free_rest whole n m e f (within n m e);
     turn = λ h n m v a two bn bm e f l.
-        let s : (one : Label) × (through t size (t.loops.body h) (Some h) m ≡ Some one) × (one.cost ≡ v) = if_some (through t size (t.loops.body h) (Some h) m) v l in
+        let s : (one : Label) × (through t size (t.loops.body h) (Some h) m ≡ Some one) × (one.cost ≡ v) =
+        if_some (through t size (t.loops.body h) (Some h) m) v l in
         let g : IsLabel (through t size (t.loops.body h) (Some h) n) (move_of t n m + laps_of t size m + s.0.cost) =
         going (t.loops.body h) (Some h) n m s.0 e f bm (other h n m a bn f) s.1 in
         at_least (through t size (t.loops.body h) (Some h) n) (step_cost t.loops t.bound t.costs (labels_of t whole size) n m + v)
-        (record { one = g.one; is = g.is; least = let c = step_is n m f in let l : move_of t n m + laps_of t size m + s.0.cost ≤ g.one.cost = g.least in omega (arith, c, l, s.2) });
-    back = λ h n a two bn e. at_least (through t size (t.loops.body h) (Some h) n) (t.costs.node n + t.costs.edge n h) (ending (t.loops.body h) (Some h) n h e (eq-eqb h h refl));
+        (record {
+          one = g.one;
+          is = g.is;
+          least = let c = step_is n m f in let l : move_of t n m + laps_of t size m + s.0.cost ≤ g.one.cost =
+              g.least in omega (arith, c, l, s.2);
+        });
+    back = λ h n a two bn e. at_least (through t size (t.loops.body h) (Some h) n) (t.costs.node n + t.costs.edge n h)
+        (ending (t.loops.body h) (Some h) n h e (eq-eqb h h refl));
   }
     where
       other : (h n m : ℕ) → t.loops.has h ≡ true → t.loops.body h n ≡ true → is_back t.loops n m ≡ false → is_end (Some h) m ≡ false
@@ -197,7 +222,8 @@ module _ (t : Task) (whole : ℕ → Bool) (rank : ℕ → ℕ) (size : ℕ) (sm
       })
     ];
     turn = λ h n v a bn l.
-        let s : (one : Label) × (through t size (t.loops.body h) (Some h) n ≡ Some one) × (one.cost ≡ v) = if_some (through t size (t.loops.body h) (Some h) n) v l in
+        let s : (one : Label) × (through t size (t.loops.body h) (Some h) n ≡ Some one) × (one.cost ≡ v) =
+        if_some (through t size (t.loops.body h) (Some h) n) v l in
         elim (chosen (t.loops.body h) (Some h) n s.0 s.1) [
           | inl x ↦ cc
           | inr y ↦ elim y [
@@ -213,7 +239,8 @@ module _ (t : Task) (whole : ℕ → Bool) (rank : ℕ → ℕ) (size : ℕ) (sm
                 inr (record {
                   next = x.node;
                   asked = x.two.cost;
-                  leads = two_true (is_edge t.graph n x.node) (t.loops.body h n && t.loops.body h x.node) x.leads (two_true (t.loops.body h n) (t.loops.body h x.node) bn i);
+                  leads = two_true (is_edge t.graph n x.node) (t.loops.body h n && t.loops.body h x.node) x.leads
+                      (two_true (t.loops.body h n) (t.loops.body h x.node) bn i);
                   forward = f;
                   lower = falls n x.node x.leads f;
                   label = ap cost_if x.there;
@@ -251,11 +278,14 @@ module _ (t : Task) (whole : ℕ → Bool) (rank : ℕ → ℕ) (size : ℕ) (sm
   module _ (entry : ℕ) (are : AreLoops (is_edge t.graph) entry t.loops) (one : (h : ℕ) → t.loops.has h ≡ true → 1 ≤ t.bound h) where
     -- the greatest cost of all walks
     pub greatest : IsGreatestCost (is_edge t.graph) entry t.loops t.bound t.costs (laps_of t size entry + cost_of (through t size whole None entry))
-    greatest = subst (λ (c : ℕ). IsGreatestCost (is_edge t.graph) entry t.loops t.bound t.costs (c + cost_of (through t size whole None entry))) (laps_are entry)
+    greatest = subst (λ (c : ℕ). IsGreatestCost (is_edge t.graph) entry t.loops t.bound t.costs (c + cost_of (through t size whole None entry)))
+        (laps_are entry)
         (chosen_greatest (is_edge t.graph) entry t.loops t.bound t.costs (labels_of t whole size) rank are one are_labels are_chosen)
 
     -- and of the walks inside the body of a loop from its head
     pub own_greatest : (h : ℕ) → t.loops.has h ≡ true
         → IsGreatestCost (edges_inside (is_edge t.graph) (t.loops.body h)) h t.loops t.bound t.costs (laps_of t size h + own_of t size h h)
-    own_greatest h a = subst (λ (c : ℕ). IsGreatestCost (edges_inside (is_edge t.graph) (t.loops.body h)) h t.loops t.bound t.costs (c + own_of t size h h)) (laps_are h)
-        (own_chosen_greatest (is_edge t.graph) entry t.loops t.bound t.costs (labels_of t whole size) rank h (own_of t size h) are one are_labels are_chosen a (own_labels h) (own_chosen h))
+    own_greatest h a = subst (λ (c : ℕ). IsGreatestCost (edges_inside (is_edge t.graph) (t.loops.body h)) h t.loops t.bound t.costs
+        (c + own_of t size h h)) (laps_are h)
+        (own_chosen_greatest (is_edge t.graph) entry t.loops t.bound t.costs (labels_of t whole size) rank h
+        (own_of t size h) are one are_labels are_chosen a (own_labels h) (own_chosen h))

@@ -1,5 +1,6 @@
 -- The node that is named is the least head whose loop costs too much while none inside it does.
-use Rattle.std.proofs.Common.{◌≡◌, ◌==◌, ◌&&◌, ◌⊎◌, ◌↔◌, ℕ, zero, suc, ◌<◌, ◌≤◌, inl, inr, Bool, true, false, not, Some, List, [], ◌∷◌, cond, refl, sym, ap, subst, ◌∙◌, arith}
+use Rattle.std.proofs.Common.{◌≡◌, ◌==◌, ◌&&◌, ◌⊎◌, ◌↔◌, ℕ, zero, suc, ◌<◌, ◌≤◌, inl, inr, Bool, true, false, not, Some, List, [], ◌∷◌, cond, refl}
+use Rattle.std.proofs.Common.{sym, ap, subst, ◌∙◌, arith}
 use Rattle.std.specs.List.{slice_get, list_any}
 use Rattle.std.proofs.lemmas.Bool.{eq-eqb, cases_lt}
 use Rattle.std.proofs.lemmas.Bool.Decides.{eqb_tells}
@@ -34,7 +35,8 @@ first_cases large [] entry = inr (refl, (λ k one e. cc))
 first_cases large (l ∷ loops) entry = by (tells (is_innermost_of large l)) (first_cases large loops entry)
   where
     by : (is_innermost_of large l ≡ true) ⊎ (is_innermost_of large l ≡ false)
-        → IsFirst large loops (first_of large loops entry) ⊎ ((first_of large loops entry ≡ entry) × ((k : ℕ) (one : Loop) → slice_get loops k ≡ Some one → is_innermost_of large one ≡ false))
+        → IsFirst large loops (first_of large loops entry)
+        ⊎ ((first_of large loops entry ≡ entry) × ((k : ℕ) (one : Loop) → slice_get loops k ≡ Some one → is_innermost_of large one ≡ false))
         → IsFirst large (l ∷ loops) (first_of large (l ∷ loops) entry)
         ⊎ ((first_of large (l ∷ loops) entry ≡ entry) × ((k : ℕ) (one : Loop) → slice_get (l ∷ loops) k ≡ Some one → is_innermost_of large one ≡ false))
     by (inl t) rest = inl (record {
@@ -54,12 +56,14 @@ first_cases large (l ∷ loops) entry = by (tells (is_innermost_of large l)) (fi
       before = earlier r;
     })
       where
-        earlier : (r : IsFirst large loops (first_of large loops entry)) → (j : ℕ) (two : Loop) → j < suc r.place → slice_get (l ∷ loops) j ≡ Some two → is_innermost_of large two ≡ false
+        earlier : (r : IsFirst large loops (first_of large loops entry)) → (j : ℕ) (two : Loop) → j < suc r.place
+            → slice_get (l ∷ loops) j ≡ Some two → is_innermost_of large two ≡ false
         earlier r zero two a e = ap (is_innermost_of large) (sym (some_eq e)) ∙ t
         earlier r (suc j) two a e = r.before j two (omega (arith, a)) e
     by (inr t) (inr r) = inr (ap (λ (b : Bool). cond b l.head (first_of large loops entry)) t ∙ r.0, none r.1)
       where
-        none : ((k : ℕ) (one : Loop) → slice_get loops k ≡ Some one → is_innermost_of large one ≡ false) → (k : ℕ) (one : Loop) → slice_get (l ∷ loops) k ≡ Some one → is_innermost_of large one ≡ false
+        none : ((k : ℕ) (one : Loop) → slice_get loops k ≡ Some one → is_innermost_of large one ≡ false) → (k : ℕ) (one : Loop)
+            → slice_get (l ∷ loops) k ≡ Some one → is_innermost_of large one ≡ false
         none r zero one e = ap (is_innermost_of large) (sym (some_eq e)) ∙ t
         none r (suc k) one e = r k one e
 
@@ -70,14 +74,17 @@ pub record IsLoopOf (all : Loops) (loops : List Loop) (h : ℕ) : Type 0 where
   pub at : slice_get loops place ≡ Some one
   pub head : one.head ≡ h
 
-module _ (all : Loops) (loops : List Loop) (rise : HeadsRise loops) (listed : (h : ℕ) → all.has h ≡ true → IsLoopOf all loops h) (heads : (k : ℕ) (one : Loop) → slice_get loops k ≡ Some one → all.has one.head ≡ true)
+module _ (all : Loops) (loops : List Loop) (rise : HeadsRise loops) (listed : (h : ℕ) → all.has h ≡ true → IsLoopOf all loops h)
+    (heads : (k : ℕ) (one : Loop) → slice_get loops k ≡ Some one → all.has one.head ≡ true)
     (bodies : (k n : ℕ) (one : Loop) → slice_get loops k ≡ Some one → all.body one.head n ≡ has one.body.items n)
-    (large : ℕ → Bool) (own : ℕ → ℕ) (says : (h : ℕ) → all.has h ≡ true → (large h ≡ true) ↔ (limit ≤ own h)) (others : (n : ℕ) → all.has n ≡ false → large n ≡ false) where
+    (large : ℕ → Bool) (own : ℕ → ℕ) (says : (h : ℕ) → all.has h ≡ true → (large h ≡ true) ↔ (limit ≤ own h))
+    (others : (n : ℕ) → all.has n ≡ false → large n ≡ false) where
   to_blamed : (k : ℕ) (one : Loop) → slice_get loops k ≡ Some one → is_innermost_of large one ≡ true → IsBlamed all own one.head
   to_blamed k one e t =
       let b : (large one.head ≡ true) × (not (list_any (λ n. not (n == one.head) && large n) one.body.items) ≡ true) =
       both (large one.head) (not (list_any (λ n. not (n == one.head) && large n) one.body.items)) t in
-      let none : list_any (λ n. not (n == one.head) && large n) one.body.items ≡ false = not_false (list_any (λ n. not (n == one.head) && large n) one.body.items) b.1 in
+      let none : list_any (λ n. not (n == one.head) && large n) one.body.items ≡ false =
+      not_false (list_any (λ n. not (n == one.head) && large n) one.body.items) b.1 in
       record {
         head = heads k one e;
         large = (says one.head (heads k one e)).0 b.0;
@@ -95,7 +102,8 @@ module _ (all : Loops) (loops : List Loop) (rise : HeadsRise loops) (listed : (h
 
   of_blamed : (k : ℕ) (one : Loop) → slice_get loops k ≡ Some one → IsBlamed all own one.head → is_innermost_of large one ≡ true
   of_blamed k one e b =
-      let none : list_any (λ n. not (n == one.head) && large n) one.body.items ≡ false = elim (tells (list_any (λ n. not (n == one.head) && large n) one.body.items)) [
+      let none : list_any (λ n. not (n == one.head) && large n) one.body.items ≡ false =
+      elim (tells (list_any (λ n. not (n == one.head) && large n) one.body.items)) [
         | inl t ↦ absurd (never t)
         | inr t ↦ t
       ] in
@@ -114,6 +122,7 @@ module _ (all : Loops) (loops : List Loop) (rise : HeadsRise loops) (listed : (h
             | inr h ↦ let g : large a.1 ≡ false = others a.1 h in let i : large a.1 ≡ true = p.1 in cc
           ]
 
+  -- the first of the large loops, or the entry, is the one that is named
   pub named : (entry : ℕ) → IsNamed all own entry (first_of large loops entry)
   named entry = elim (first_cases large loops entry) [
     | inl f ↦ inl (

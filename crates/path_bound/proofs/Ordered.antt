@@ -1,5 +1,6 @@
 -- Heads come last: the nodes of a body rank below its head, and no edge back leads to a node before.
-use Rattle.std.proofs.Common.{◌≡◌, ◌==◌, ◌&&◌, ◌||◌, ℕ, zero, suc, ◌<◌, ◌≤◌, inl, inr, Bool, true, false, List, [], ◌∷◌, ◌++◌, length, take, get_or, cond, refl, sym, ap, ◌∙◌, arith}
+use Rattle.std.proofs.Common.{◌≡◌, ◌==◌, ◌&&◌, ◌||◌, ℕ, zero, suc, ◌<◌, ◌≤◌, inl, inr, Bool, true, false, List, [], ◌∷◌, ◌++◌, length, take, get_or}
+use Rattle.std.proofs.Common.{cond, refl, sym, ap, ◌∙◌, arith}
 use Rattle.std.proofs.lemmas.Bool.{eq-eqb, cases_lt}
 use Rattle.std.proofs.lemmas.Bool.Decides.{eqb_tells}
 use Rattle.bt_base.specs.Graph.{has}
@@ -16,9 +17,11 @@ use Rattle.path_bound.specs.Ranked.{rank_in, IsOrder, IsForwardOrder}
 use Rattle.path_bound.proofs.Told.{IsAt}
 
 -- walks inside a body
-inside_walk : (edge : ℕ → ℕ → Bool) (body : ℕ → Bool) (n : ℕ) (rest : List ℕ) → body n ≡ true → IsWalk edge n rest → AreInside body rest → IsWalk (edges_inside edge body) n rest
+inside_walk : (edge : ℕ → ℕ → Bool) (body : ℕ → Bool) (n : ℕ) (rest : List ℕ) → body n ≡ true → IsWalk edge n rest → AreInside body rest
+    → IsWalk (edges_inside edge body) n rest
 inside_walk edge body n [] b w i = tt
-inside_walk edge body n (m ∷ rest) b w i = (two_true (edge n m) (body n && body m) w.0 (two_true (body n) (body m) b i.0), inside_walk edge body m rest i.0 w.1 i.1)
+inside_walk edge body n (m ∷ rest) b w i =
+    (two_true (edge n m) (body n && body m) w.0 (two_true (body n) (body m) b i.0), inside_walk edge body m rest i.0 w.1 i.1)
 
 walk_inside : (edge : ℕ → ℕ → Bool) (body : ℕ → Bool) (n : ℕ) (rest : List ℕ) → IsWalk (edges_inside edge body) n rest → AreInside body rest
 walk_inside edge body n [] w = tt
@@ -43,6 +46,7 @@ rank_within (x ∷ xs) n h = elim (tells (n == x)) [
       let r : rank_in xs n < length xs = rank_within xs n (sym (ap (λ (b : Bool). b || has xs n) t) ∙ h) in omega (arith, e, r)
 ]
 
+-- no place is past the end
 pub rank_most : (xs : List ℕ) (n : ℕ) → rank_in xs n ≤ length xs
 rank_most [] n = omega arith
 rank_most (x ∷ xs) n = most (n == x) (rank_most xs n)
@@ -54,6 +58,7 @@ rank_most (x ∷ xs) n = most (n == x) (rank_most xs n)
 same : (a b : ℕ) → (a == b) ≡ true → a ≡ b
 same a b t = elim (eqb_tells a b) [ inl q ↦ q.1 | inr q ↦ let f : (a == b) ≡ false = q.0 in cc ]
 
+-- at its place stands the node itself
 pub rank_at : (xs : List ℕ) (n : ℕ) → has xs n ≡ true → get_or xs (rank_in xs n) 0 ≡ n
 rank_at [] n h = cc
 rank_at (x ∷ xs) n h = elim (tells (n == x)) [
@@ -63,6 +68,7 @@ rank_at (x ∷ xs) n h = elim (tells (n == x)) [
       ∙ rank_at xs n (sym (ap (λ (b : Bool). b || has xs n) t) ∙ h)
 ]
 
+-- what a list has stands at a place
 pub place_in : (xs : List ℕ) (n : ℕ) → has xs n ≡ true → IsAt xs n
 place_in xs n h = record { place = rank_in xs n; within = rank_within xs n h; is = rank_at xs n h }
 
@@ -77,6 +83,7 @@ rank_taken (x ∷ xs) (suc i) n h = elim (tells (n == x)) [
       let r : rank_in xs n < i = rank_taken xs i n (sym (ap (λ (b : Bool). b || has (take i xs) n) t) ∙ h) in omega (arith, e, r)
 ]
 
+-- a node whose place is passed is among those taken
 pub taken_rank : (xs : List ℕ) (i n : ℕ) → has xs n ≡ true → rank_in xs n < i → has (take i xs) n ≡ true
 taken_rank [] i n h l = cc
 taken_rank (x ∷ xs) zero n h l = absurd (omega (arith, l))
@@ -93,7 +100,8 @@ module _ (edge : ℕ → ℕ → Bool) (loops : Loops) (inside : ℕ → Bool) (
   order_falls n m i j e f =
       let h : has order n ≡ true = is.same n ∙ i in
       let at : get_or order (rank_in order n) 0 ≡ n = rank_at order n h in
-      rank_taken order (rank_in order n) m (is.before (rank_in order n) m (rank_within order n h) j (ap (λ (x : ℕ). edge x m) at ∙ e) (ap (λ (x : ℕ). is_back loops x m) at ∙ f))
+      rank_taken order (rank_in order n) m
+      (is.before (rank_in order n) m (rank_within order n h) j (ap (λ (x : ℕ). edge x m) at ∙ e) (ap (λ (x : ℕ). is_back loops x m) at ∙ f))
 
   -- the rank of a place is the place
   pub rank_place : (k : ℕ) → k < length order → rank_in order (get_or order k 0) ≡ k
@@ -126,7 +134,8 @@ module _ (edge : ℕ → ℕ → Bool) (loops : Loops) (inside : ℕ → Bool) (
           right false b h = h
 
   -- they fall along forward walks through the nodes
-  pub walk_falls : (n : ℕ) (rest : List ℕ) → inside n ≡ true → IsWalk edge n rest → IsForward loops n rest → AreInside inside rest → rank_in order (end_of n rest) ≤ rank_in order n
+  pub walk_falls : (n : ℕ) (rest : List ℕ) → inside n ≡ true → IsWalk edge n rest → IsForward loops n rest → AreInside inside rest
+      → rank_in order (end_of n rest) ≤ rank_in order n
   walk_falls n [] i w f s = omega arith
   walk_falls n (m ∷ rest) i w f s =
       let a : rank_in order m < rank_in order n = order_falls n m i s.0 w.0 f.0 in
@@ -140,7 +149,9 @@ pub record IsReachedInside (edge : ℕ → ℕ → Bool) (loops : Loops) (h n : 
   pub stays : AreInside (loops.body h) rest
   pub ends : end_of h rest ≡ n
 
-pub reached_inside : (edge : ℕ → ℕ → Bool) (entry : ℕ) (nest : Nest) → IsNest edge entry nest → AreReached edge entry → (h n : ℕ) → nest.has h ≡ true → nest.body h n ≡ true
+-- inside a nest the nodes of a body are reached from its head
+pub reached_inside : (edge : ℕ → ℕ → Bool) (entry : ℕ) (nest : Nest) → IsNest edge entry nest → AreReached edge entry → (h n : ℕ) → nest.has h ≡ true
+    → nest.body h n ≡ true
     → IsReachedInside edge (loops_of nest) h n
 reached_inside edge entry nest is reached h n a b =
     let loops : Loops = loops_of nest in
@@ -152,7 +163,8 @@ reached_inside edge entry nest is reached h n a b =
     let stay : AreInside (nest.body h) between = stays_inside edge entry nest is h h n between a itself.there p.there.walk p.back in
     let w : IsWalk edge h (between ++ n ∷ []) = walk_of_more (cut edge (nest.outer h)) edge (cut_edge edge (nest.outer h)) h (between ++ n ∷ []) p.there.walk in
     let s : AreInside (nest.body h) (between ++ n ∷ []) = inside_last between stay in
-    let r : IsReached (edges_inside edge (nest.body h)) h n = record { rest = between ++ n ∷ []; walk = inside_walk edge (nest.body h) h (between ++ n ∷ []) here w s; ends = end_last h between } in
+    let r : IsReached (edges_inside edge (nest.body h)) h n =
+    record { rest = between ++ n ∷ []; walk = inside_walk edge (nest.body h) h (between ++ n ∷ []) here w s; ends = end_last h between } in
     let f : IsReachedForward (edges_inside edge (nest.body h)) (loops_inside loops h) h n =
     reached_forward (edges_inside edge (nest.body h)) h (loops_inside loops h) (inner_loops edge entry loops h are a) n r in
     let i : AreInside (nest.body h) f.rest = walk_inside edge (nest.body h) h f.rest f.walk in
@@ -179,7 +191,8 @@ module _ (edge : ℕ → ℕ → Bool) (loops : Loops) (inside : ℕ → Bool) (
   pub body_falls : (h n : ℕ) → loops.has h ≡ true → inside h ≡ true → loops.body h n ≡ true → rank_in order n ≤ rank_in order h
   body_falls h n a i b =
       let r : IsReachedInside edge loops h n = reach h n a b in
-      let w : rank_in order (end_of h r.rest) ≤ rank_in order h = walk_falls edge loops inside order is h r.rest i r.walk r.forward (all_inside h a i r.rest r.stays) in
+      let w : rank_in order (end_of h r.rest) ≤ rank_in order h =
+      walk_falls edge loops inside order is h r.rest i r.walk r.forward (all_inside h a i r.rest r.stays) in
       omega (arith, w, ap (rank_in order) r.ends)
     where
       all_inside : (h : ℕ) → loops.has h ≡ true → inside h ≡ true → (rest : List ℕ) → AreInside (loops.body h) rest → AreInside inside rest

@@ -1,5 +1,6 @@
 -- Labels are given to one node after the other, and labels lead along a walk.
-use Rattle.std.proofs.Common.{◌≡◌, ◌≢◌, ◌==◌, ◌||◌, ℕ, zero, suc, ◌+◌, ◌<◌, ◌≤◌, inl, inr, Bool, true, false, Option, Some, None, List, [], ◌∷◌, ◌++◌, length, take, drop, set, get_or, cond, refl, sym, ap, subst, ◌∙◌, arith, Vec, Global}
+use Rattle.std.proofs.Common.{◌≡◌, ◌≢◌, ◌==◌, ◌||◌, ℕ, zero, suc, ◌+◌, ◌<◌, ◌≤◌, inl, inr, Bool, true, false, Option, Some, None, List, [], ◌∷◌, ◌++◌}
+use Rattle.std.proofs.Common.{length, take, drop, set, get_or, cond, refl, sym, ap, subst, ◌∙◌, arith, Vec, Global}
 use mathlib.Core.Path.{fun_ext}
 use Rattle.std.proofs.lemmas.Bool.{eq-eqb, cases_lt}
 use Rattle.std.proofs.lemmas.Bool.Decides.{eqb_tells}
@@ -18,7 +19,8 @@ use Rattle.path_bound.specs.Steps.{items_of, steps_at}
 use Rattle.path_bound.specs.Turning.{NoLabels, ArePassed, Leads, IsFollowed}
 
 -- one step more is looked at
-pub best_more : (cut : ℕ → ℕ) (head : Option ℕ) (laps : ℕ → ℕ) (label : ℕ → Option Label) (old new : Option Label) (steps : List Step) (i : ℕ) (d : Step) → i < length steps
+pub best_more : (cut : ℕ → ℕ) (head : Option ℕ) (laps : ℕ → ℕ) (label : ℕ → Option Label) (old new : Option Label) (steps : List Step) (i : ℕ)
+    (d : Step) → i < length steps
     → new ≡ greater old (asked cut head laps label (get_or steps i d))
     → best_of cut head laps label new (drop (i + 1) steps) ≡ best_of cut head laps label old (drop i steps)
 best_more cut head laps label old new steps i d l e =
@@ -33,11 +35,13 @@ pub label_other : (labels : List (Option Label)) (x n : ℕ) (o : Option Label) 
 label_other labels x n o ne = get_or-set_other labels x n o None ne
 
 -- the first nodes of an order have their labels
-pub record ArePassedUpTo (order : List ℕ) (head : Option ℕ) (node : List ℕ) (steps : List (Vec Step Global)) (laps : List ℕ) (count : ℕ) (labels : List (Option Label)) : Type 0 where
+pub record ArePassedUpTo (order : List ℕ) (head : Option ℕ) (node : List ℕ) (steps : List (Vec Step Global)) (laps : List ℕ) (count : ℕ)
+    (labels : List (Option Label)) : Type 0 where
   pub size : length labels ≡ length node
   pub labelled : (k : ℕ) → k < count
       → label_at labels (get_or order k 0)
-      ≡ best_of cap head (λ m. get_or laps m 0) (only (has (take k order)) (label_at labels)) (start_at head (cap (get_or node (get_or order k 0) 0))) (steps_at steps (get_or order k 0))
+      ≡ best_of cap head (λ m. get_or laps m 0) (only (has (take k order)) (label_at labels))
+      (start_at head (cap (get_or node (get_or order k 0) 0))) (steps_at steps (get_or order k 0))
   pub others : (n : ℕ) → has (take count order) n ≡ false → label_at labels n ≡ None
 
 pub has_in_take : (xs : List ℕ) (i k : ℕ) → k < i → i ≤ length xs → has (take i xs) (get_or xs k 0) ≡ true
@@ -46,7 +50,10 @@ has_in_take xs (suc i) k l h = elim (cases_lt k i) [
   | inl a ↦
       has_later (has_in_take xs i k a (omega (arith, h)))
   | inr a ↦ let e : k ≡ i = omega (arith, l, a) in
-      subst (λ (j : ℕ). has (take j xs) (get_or xs k 0) ≡ true) (sym (one_more i)) (has_take_more xs i (get_or xs k 0) (omega (arith, h)) ∙ or_true (has (take i xs) (get_or xs k 0)) (get_or xs k 0 == get_or xs i 0) (eq-eqb (get_or xs k 0) (get_or xs i 0) (ap (λ (j : ℕ). get_or xs j 0) e)))
+      subst (λ (j : ℕ). has (take j xs) (get_or xs k 0) ≡ true) (sym (one_more i))
+      (has_take_more xs i (get_or xs k 0) (omega (arith, h))
+      ∙ or_true (has (take i xs) (get_or xs k 0)) (get_or xs k 0 == get_or xs i 0)
+      (eq-eqb (get_or xs k 0) (get_or xs i 0) (ap (λ (j : ℕ). get_or xs j 0) e)))
 ]
   where
     one_more : (i : ℕ) → suc i ≡ i + 1
@@ -57,7 +64,8 @@ has_in_take xs (suc i) k l h = elim (cases_lt k i) [
     or_true false b h = h
 
     has_later : has (take i xs) (get_or xs k 0) ≡ true → has (take (suc i) xs) (get_or xs k 0) ≡ true
-    has_later p = subst (λ (j : ℕ). has (take j xs) (get_or xs k 0) ≡ true) (sym (one_more i)) (has_take_more xs i (get_or xs k 0) (omega (arith, h)) ∙ ap (λ (b : Bool). b || (get_or xs k 0 == get_or xs i 0)) p)
+    has_later p = subst (λ (j : ℕ). has (take j xs) (get_or xs k 0) ≡ true) (sym (one_more i))
+        (has_take_more xs i (get_or xs k 0) (omega (arith, h)) ∙ ap (λ (b : Bool). b || (get_or xs k 0 == get_or xs i 0)) p)
 
 -- what is in a beginning is in a longer one
 pub take_on : (xs : List ℕ) (k i n : ℕ) → k ≤ i → has (take k xs) n ≡ true → has (take i xs) n ≡ true
@@ -74,13 +82,17 @@ take_on (x ∷ xs) (suc k) (suc i) n l h = elim (tells (n == x)) [
     right true b h = refl
     right false b h = h
 
-pub passed_begun : (order : List ℕ) (head : Option ℕ) (node : List ℕ) (steps : List (Vec Step Global)) (laps : List ℕ) (labels : List (Option Label)) → length labels ≡ length node → NoLabels labels
+-- no node is passed yet
+pub passed_begun : (order : List ℕ) (head : Option ℕ) (node : List ℕ) (steps : List (Vec Step Global)) (laps : List ℕ) (labels : List (Option Label))
+    → length labels ≡ length node → NoLabels labels
     → ArePassedUpTo order head node steps laps 0 labels
 passed_begun order head node steps laps labels size none = record { size = size; labelled = λ k l. absurd (omega (arith, l)); others = λ n h. none n }
 
-module _ (order : List ℕ) (head : Option ℕ) (node : List ℕ) (steps : List (Vec Step Global)) (laps : List ℕ) (i : ℕ) (labels : List (Option Label)) (o : Option Label)
+module _ (order : List ℕ) (head : Option ℕ) (node : List ℕ) (steps : List (Vec Step Global)) (laps : List ℕ) (i : ℕ) (labels : List (Option Label))
+    (o : Option Label)
     (l : i < length order) (once : has (take i order) (get_or order i 0) ≡ false) (within : get_or order i 0 < length labels)
-    (is : o ≡ best_of cap head (λ m. get_or laps m 0) (label_at labels) (start_at head (cap (get_or node (get_or order i 0) 0))) (steps_at steps (get_or order i 0)))
+    (is : o ≡ best_of cap head (λ m. get_or laps m 0) (label_at labels) (start_at head (cap (get_or node (get_or order i 0) 0)))
+    (steps_at steps (get_or order i 0)))
     (was : ArePassedUpTo order head node steps laps i labels) where
   earlier : (k m : ℕ) → k ≤ i → has (take k order) m ≡ true → m ≢ get_or order i 0
   earlier k m h t e = let f : has (take i order) (get_or order i 0) ≡ true = ap (has (take i order)) (sym e) ∙ take_on order k i m h t in cc
@@ -88,7 +100,8 @@ module _ (order : List ℕ) (head : Option ℕ) (node : List ℕ) (steps : List 
   kept : (m : ℕ) → m ≢ get_or order i 0 → label_at (set labels (get_or order i 0) o) m ≡ label_at labels m
   kept m ne = label_other labels (get_or order i 0) m o ne
 
-  same_only : (k : ℕ) → k ≤ i → (m : ℕ) → only (has (take k order)) (label_at (set labels (get_or order i 0) o)) m ≡ only (has (take k order)) (label_at labels) m
+  same_only : (k : ℕ) → k ≤ i → (m : ℕ)
+      → only (has (take k order)) (label_at (set labels (get_or order i 0) o)) m ≡ only (has (take k order)) (label_at labels) m
   same_only k h m = elim (tells (has (take k order) m)) [
     | inl t ↦ ap (λ (x : Option Label). cond (has (take k order) m) x None) (kept m (earlier k m h t))
     | inr t ↦ ap (λ (b : Bool). cond b (label_at (set labels (get_or order i 0) o) m) None) t ∙ sym (ap (λ (b : Bool). cond b (label_at labels m) None) t)
@@ -100,6 +113,7 @@ module _ (order : List ℕ) (head : Option ℕ) (node : List ℕ) (steps : List 
     | inr t ↦ was.others m t ∙ sym (ap (λ (b : Bool). cond b (label_at (set labels (get_or order i 0) o) m) None) t)
   ]
 
+  -- one node more is passed
   pub passed_on : ArePassedUpTo order head node steps laps (i + 1) (set labels (get_or order i 0) o)
   passed_on = record {
     size = length-set labels (get_or order i 0) o ∙ was.size;
@@ -107,14 +121,17 @@ module _ (order : List ℕ) (head : Option ℕ) (node : List ℕ) (steps : List 
       | inl a ↦
           kept (get_or order k 0) (earlier i (get_or order k 0) (omega arith) (has_in_take order i k a (omega (arith, l))))
           ∙ (was.labelled k a
-          ∙ ap (λ (f : ℕ → Option Label). best_of cap head (λ m. get_or laps m 0) f (start_at head (cap (get_or node (get_or order k 0) 0))) (steps_at steps (get_or order k 0)))
+          ∙ ap (λ (f : ℕ → Option Label). best_of cap head (λ m. get_or laps m 0) f (start_at head (cap (get_or node (get_or order k 0) 0)))
+          (steps_at steps (get_or order k 0)))
           (fun_ext (λ m. sym (same_only k (omega (arith, a)) m))))
       | inr a ↦
           let e : i ≡ k = omega (arith, h, a) in
           subst (λ (j : ℕ). label_at (set labels (get_or order i 0) o) (get_or order j 0)
-          ≡ best_of cap head (λ m. get_or laps m 0) (only (has (take j order)) (label_at (set labels (get_or order i 0) o))) (start_at head (cap (get_or node (get_or order j 0) 0))) (steps_at steps (get_or order j 0))) e
+          ≡ best_of cap head (λ m. get_or laps m 0) (only (has (take j order)) (label_at (set labels (get_or order i 0) o)))
+          (start_at head (cap (get_or node (get_or order j 0) 0))) (steps_at steps (get_or order j 0))) e
           (label_here labels (get_or order i 0) o within
-          ∙ (is ∙ ap (λ (f : ℕ → Option Label). best_of cap head (λ m. get_or laps m 0) f (start_at head (cap (get_or node (get_or order i 0) 0))) (steps_at steps (get_or order i 0))) (fun_ext only_these)))
+          ∙ (is ∙ ap (λ (f : ℕ → Option Label). best_of cap head (λ m. get_or laps m 0) f (start_at head (cap (get_or node (get_or order i 0) 0)))
+          (steps_at steps (get_or order i 0))) (fun_ext only_these)))
     ];
     others = λ n h.
         let e : has (take (i + 1) order) n ≡ (has (take i order) n || (n == get_or order i 0)) = has_take_more order i n l in
@@ -126,7 +143,8 @@ module _ (order : List ℕ) (head : Option ℕ) (node : List ℕ) (steps : List 
       apart a b f e = let t : (a == b) ≡ true = eq-eqb a b e in cc
 
 -- all nodes of an order have their labels
-pub passed_done : (order : List ℕ) (head : Option ℕ) (node : List ℕ) (steps : List (Vec Step Global)) (laps : List ℕ) (count : ℕ) (labels : List (Option Label)) → count ≡ length order
+pub passed_done : (order : List ℕ) (head : Option ℕ) (node : List ℕ) (steps : List (Vec Step Global)) (laps : List ℕ) (count : ℕ)
+    (labels : List (Option Label)) → count ≡ length order
     → ArePassedUpTo order head node steps laps count labels → ArePassed order head node steps laps labels
 passed_done order head node steps laps count labels e was = record {
   labelled = λ k l. was.labelled k (omega (arith, l, e));
@@ -134,7 +152,8 @@ passed_done order head node steps laps count labels e was = record {
 }
 
 -- labels lead on by one node
-pub leads_on : (labels : List (Option Label)) (n m : ℕ) (rest : List ℕ) → Leads labels n rest → next_of (label_at labels (end_of n rest)) ≡ Some m → Leads labels n (rest ++ m ∷ [])
+pub leads_on : (labels : List (Option Label)) (n m : ℕ) (rest : List ℕ) → Leads labels n rest → next_of (label_at labels (end_of n rest)) ≡ Some m
+    → Leads labels n (rest ++ m ∷ [])
 leads_on labels n m [] a e = (e, tt)
 leads_on labels n m (k ∷ rest) a e = (a.0, leads_on labels k m rest a.1 e)
 
@@ -149,10 +168,13 @@ pub record IsOnWay (labels : List (Option Label)) (from : ℕ) (walk : List ℕ)
   pub leads : Leads labels from rest
   pub ends : end_of from rest ≡ node
 
+-- a way begins at its node
 pub way_begun : (labels : List (Option Label)) (from : ℕ) (walk : List ℕ) → walk ≡ from ∷ [] → IsOnWay labels from walk from
 way_begun labels from walk e = record { rest = []; begins = e; leads = tt; ends = refl }
 
-pub way_on : (labels : List (Option Label)) (from node next : ℕ) (walk : List ℕ) → IsOnWay labels from walk node → next_of (label_at labels node) ≡ Some next → IsOnWay labels from (walk ++ next ∷ []) next
+-- a way goes on by one label more
+pub way_on : (labels : List (Option Label)) (from node next : ℕ) (walk : List ℕ) → IsOnWay labels from walk node
+    → next_of (label_at labels node) ≡ Some next → IsOnWay labels from (walk ++ next ∷ []) next
 way_on labels from node next walk w e = record {
   rest = w.rest ++ next ∷ [];
   begins = ap (λ (x : List ℕ). x ++ next ∷ []) w.begins;
@@ -160,11 +182,14 @@ way_on labels from node next walk w e = record {
   ends = end_on from next w.rest;
 }
 
-pub way_done : (labels : List (Option Label)) (from node : ℕ) (walk : List ℕ) → IsOnWay labels from walk node → next_of (label_at labels node) ≡ None → IsFollowed labels from walk
+-- a way along labels ends where they lead no further
+pub way_done : (labels : List (Option Label)) (from node : ℕ) (walk : List ℕ) → IsOnWay labels from walk node → next_of (label_at labels node) ≡ None
+    → IsFollowed labels from walk
 way_done labels from node walk w e = record { rest = w.rest; begins = w.begins; leads = w.leads; ends = ap (λ (x : ℕ). next_of (label_at labels x)) w.ends ∙ e }
 
 -- a label is taken away
-pub cleared_on : (nodes : List ℕ) (i : ℕ) (first labels : List (Option Label)) → i < length nodes → get_or nodes i 0 < length labels → length labels ≡ length first
+pub cleared_on : (nodes : List ℕ) (i : ℕ) (first labels : List (Option Label)) → i < length nodes → get_or nodes i 0 < length labels
+    → length labels ≡ length first
     → ((n : ℕ) → label_at labels n ≡ cond (has (take i nodes) n) None (label_at first n))
     → record {
       size : length (set labels (get_or nodes i 0) None) ≡ length first;
@@ -181,7 +206,8 @@ cleared_on nodes i first labels l w size was = record {
             ∙ sym (ap (λ (b : Bool). cond b None (label_at first n)) (e ∙ (ap (λ (b : Bool). has (take i nodes) n || b) a.0 ∙ or_all (has (take i nodes) n)))))
         | inr a ↦
             label_other labels (get_or nodes i 0) n None a.1
-            ∙ (was n ∙ sym (ap (λ (b : Bool). cond b None (label_at first n)) (e ∙ (ap (λ (b : Bool). has (take i nodes) n || b) a.0 ∙ or_none (has (take i nodes) n)))))
+            ∙ (was n ∙ sym (ap (λ (b : Bool). cond b None (label_at first n))
+            (e ∙ (ap (λ (b : Bool). has (take i nodes) n || b) a.0 ∙ or_none (has (take i nodes) n)))))
       ];
 }
   where

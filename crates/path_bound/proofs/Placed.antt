@@ -1,5 +1,6 @@
 -- The place of the loop of a head.
-use Rattle.std.proofs.Common.{◌≡◌, ◌==◌, ◌||◌, ◌⊎◌, ℕ, zero, suc, ◌+◌, ◌<◌, ◌≤◌, inl, inr, Bool, true, false, Option, Some, None, List, [], ◌∷◌, length, set, get_or, cond, ltb, sym, ap, ◌∙◌, arith}
+use Rattle.std.proofs.Common.{◌≡◌, ◌==◌, ◌||◌, ◌⊎◌, ℕ, zero, suc, ◌+◌, ◌<◌, ◌≤◌, inl, inr, Bool, true, false, Option, Some, None, List, [], ◌∷◌}
+use Rattle.std.proofs.Common.{length, set, get_or, cond, ltb, sym, ap, ◌∙◌, arith}
 use Rattle.std.specs.List.{slice_get}
 use Rattle.std.proofs.lemmas.Bool.{eq-eqb, cases_lt, lt-ltb, le-ltb, ltb-true}
 use Rattle.std.proofs.lemmas.Bool.Decides.{eqb_tells}
@@ -10,6 +11,7 @@ use Rattle.loop_nest.specs.declared.natural_loop.Loop.{Loop}
 use Rattle.loop_nest.specs.LoopNest.{is_head, HeadsRise}
 use Rattle.path_bound.specs.Places.{place_of, place_below, AreLoopsBelow}
 
+-- what is there is one
 pub some_one : {A : Type 0} {x y : A} → Some x ≡ Some y → x ≡ y
 some_one e = cc
 
@@ -22,6 +24,7 @@ pub record IsLoopAt (loops : List Loop) (place h : ℕ) : Type 0 where
   pub at : slice_get loops place ≡ Some one
   pub head : one.head ≡ h
 
+-- at the place of a head stands its loop
 pub place_reads : (loops : List Loop) (h : ℕ) → place_of loops h < length loops → IsLoopAt loops (place_of loops h) h
 place_reads [] h l = absurd (omega (arith, l))
 place_reads (one ∷ loops) h l = elim (tells (h == one.head)) [
@@ -36,13 +39,15 @@ place_first : (loops : List Loop) (k : ℕ) (one : Loop) → slice_get loops k �
 place_first [] k one e = cc
 place_first (l ∷ loops) zero one e =
     let s : l ≡ one = some_one e in
-    let z : place_of (l ∷ loops) one.head ≡ 0 = ap (λ (b : Bool). cond b 0 (suc (place_of loops one.head))) (eq-eqb one.head l.head (ap (λ (x : Loop). x.head) (sym s))) in omega (arith, z)
+    let z : place_of (l ∷ loops) one.head ≡ 0 =
+    ap (λ (b : Bool). cond b 0 (suc (place_of loops one.head))) (eq-eqb one.head l.head (ap (λ (x : Loop). x.head) (sym s))) in omega (arith, z)
 place_first (l ∷ loops) (suc k) one e = most (one.head == l.head) (place_first loops k one e)
   where
     most : (b : Bool) → place_of loops one.head ≤ k → cond b 0 (suc (place_of loops one.head)) ≤ suc k
     most true r = omega arith
     most false r = omega (arith, r)
 
+-- the place of a loop's head is the loop's
 pub place_is : (loops : List Loop) → HeadsRise loops → (k : ℕ) (one : Loop) → slice_get loops k ≡ Some one → place_of loops one.head ≡ k
 place_is loops rise k one e =
     let m : place_of loops one.head ≤ k = place_first loops k one e in
@@ -53,6 +58,7 @@ place_is loops rise k one e =
       | inr l ↦ omega (arith, m, l)
     ]
 
+-- a node is a head exactly where it has a place among the loops
 pub head_place : (loops : List Loop) (h : ℕ) → is_head loops h ≡ ltb (place_of loops h) (length loops)
 head_place [] h = sym (le-ltb 0 0 (omega arith))
 head_place (one ∷ loops) h = elim (tells (h == one.head)) [
@@ -61,7 +67,8 @@ head_place (one ∷ loops) h = elim (tells (h == one.head)) [
       ap (λ (b : Bool). b || is_head loops h) t ∙ sym (lt-ltb (place_of (one ∷ loops) h) (suc (length loops)) (omega (arith, z)))
   | inr t ↦
       let z : place_of (one ∷ loops) h ≡ suc (place_of loops h) = ap (λ (b : Bool). cond b 0 (suc (place_of loops h))) t in
-      ap (λ (b : Bool). b || is_head loops h) t ∙ (head_place loops h ∙ (same (place_of loops h) (length loops) ∙ ap (λ (k : ℕ). ltb k (suc (length loops))) (sym z)))
+      ap (λ (b : Bool). b || is_head loops h) t
+      ∙ (head_place loops h ∙ (same (place_of loops h) (length loops) ∙ ap (λ (k : ℕ). ltb k (suc (length loops))) (sym z)))
 ]
   where
     same : (a b : ℕ) → ltb a b ≡ ltb (suc a) (suc b)
@@ -70,6 +77,7 @@ head_place (one ∷ loops) h = elim (tells (h == one.head)) [
       | inr l ↦ le-ltb a b l ∙ sym (le-ltb (suc a) (suc b) (omega (arith, l)))
     ]
 
+-- a place that is found below a count is the head's
 pub below_some : (loops : List Loop) (count h p : ℕ) → place_below loops count h ≡ Some p → (place_of loops h ≡ p) × (p < count)
 below_some loops count h p e = given (tells (ltb (place_of loops h) count))
   where
@@ -92,13 +100,15 @@ back_none loops h e = elim (tells (ltb (place_of loops h) (length loops))) [
   | inr t ↦ head_place loops h ∙ t
 ]
 
+-- a place that is found is that of a head
 pub back_some : (loops : List Loop) (h p : ℕ) → place_below loops (length loops) h ≡ Some p → is_head loops h ≡ true
 back_some loops h p e =
     let b : (place_of loops h ≡ p) × (p < length loops) = below_some loops (length loops) h p e in
     head_place loops h ∙ lt-ltb (place_of loops h) (length loops) (omega (arith, b.0, b.1))
 
 -- one loop more has its place
-pub places_on : (loops : List Loop) (count i : ℕ) (one : Loop) (places : List (Option ℕ)) → AreLoopsBelow count loops → length places ≡ count → slice_get loops i ≡ Some one
+pub places_on : (loops : List Loop) (count i : ℕ) (one : Loop) (places : List (Option ℕ)) → AreLoopsBelow count loops → length places ≡ count
+    → slice_get loops i ≡ Some one
     → ((h : ℕ) → get_or places h None ≡ place_below loops i h) → (h : ℕ) → get_or (set places one.head (Some i)) h None ≡ place_below loops (i + 1) h
 places_on loops count i one places are size e was h =
     let p : place_of loops one.head ≡ i = place_is loops are.rising i one e in
@@ -107,7 +117,8 @@ places_on loops count i one places are size e was h =
       | inl q ↦
           let r : place_of loops h ≡ i = ap (place_of loops) q.1 ∙ p in
           ap (λ (x : ℕ). get_or (set places one.head (Some i)) x None) q.1
-          ∙ (get_or-set_same places one.head (Some i) None (omega (arith, w, size)) ∙ sym (below_is loops (i + 1) h (omega (arith, r)) ∙ ap (λ (x : ℕ). Some x) r))
+          ∙ (get_or-set_same places one.head (Some i) None (omega (arith, w, size))
+          ∙ sym (below_is loops (i + 1) h (omega (arith, r)) ∙ ap (λ (x : ℕ). Some x) r))
       | inr q ↦
           get_or-set_other places one.head h (Some i) None q.1
           ∙ (was h

@@ -1,5 +1,6 @@
 -- Nodes are placed one after the other, or wait, and are woken.
-use Rattle.std.proofs.Common.{◌≡◌, ◌≢◌, ◌==◌, ◌&&◌, ◌||◌, ◌⊎◌, ℕ, ◌+◌, ◌-◌, ◌<◌, ◌≤◌, inl, inr, Bool, true, false, not, Some, List, [], ◌∷◌, ◌++◌, length, take, set, get_or, cond, refl, sym, ap, subst, ◌∙◌, arith, Vec, Global}
+use Rattle.std.proofs.Common.{◌≡◌, ◌≢◌, ◌==◌, ◌&&◌, ◌||◌, ◌⊎◌, ℕ, ◌+◌, ◌-◌, ◌<◌, ◌≤◌, inl, inr, Bool, true, false, not, Some, List, [], ◌∷◌, ◌++◌}
+use Rattle.std.proofs.Common.{length, take, set, get_or, cond, refl, sym, ap, subst, ◌∙◌, arith, Vec, Global}
 use Rattle.std.specs.Prelude.{filter}
 use Rattle.std.proofs.lemmas.Bool.{eq-eqb, cases_lt}
 use Rattle.std.proofs.lemmas.Bool.Decides.{eqb_tells}
@@ -56,7 +57,8 @@ apart : (a b : ℕ) → (a ≡ b → ⊥) → (a == b) ≡ false
 apart a b ne = elim (eqb_tells a b) [ inl q ↦ absurd (ne q.1) | inr q ↦ q.0 ]
 
 module _ (edge : ℕ → ℕ → Bool) (loops : Loops) (count : ℕ) (inside : ℕ → Bool) (done : List ℕ) (pending more : ℕ → Bool) (node : ℕ)
-    (all : (n : ℕ) → more n ≡ true → (n ≡ node) ⊎ (pending n ≡ true)) (here : inside node ≡ true) (order : List ℕ) (placed : List Bool) (waiting : List (Vec ℕ Global))
+    (all : (n : ℕ) → more n ≡ true → (n ≡ node) ⊎ (pending n ≡ true)) (here : inside node ≡ true) (order : List ℕ) (placed : List Bool)
+    (waiting : List (Vec ℕ Global))
     (is : IsRanking edge loops count inside done more order placed waiting) where
   -- a node that is placed needn't be advanced
   pub skipped : is_placed placed node ≡ true → IsRanking edge loops count inside done pending order placed waiting
@@ -91,7 +93,8 @@ module _ (edge : ℕ → ℕ → Bool) (loops : Loops) (count : ℕ) (inside : �
       | inl q ↦
           ap (is_placed (set placed node true)) q.1 ∙ (placed_same placed node true l ∙ sym (has-push order node n ∙ or_right (has order n) (n == node) q.0))
       | inr q ↦
-          placed_other placed node n true q.1 ∙ (is.placed_so n i ∙ sym (has-push order node n ∙ (ap (λ (b : Bool). has order n || b) q.0 ∙ or_none (has order n))))
+          placed_other placed node n true q.1
+          ∙ (is.placed_so n i ∙ sym (has-push order node n ∙ (ap (λ (b : Bool). has order n || b) q.0 ∙ or_none (has order n))))
     ];
     others = λ n o. placed_other placed node n true (λ e. let f : inside n ≡ true = ap inside e ∙ here in cc) ∙ is.others n o;
     within = λ n h. elim (or_cases (has order n) (n == node) (sym (has-push order node n) ∙ h)) [
@@ -119,7 +122,11 @@ module _ (edge : ℕ → ℕ → Bool) (loops : Loops) (count : ℕ) (inside : �
           ap (λ (x : List ℕ). has x m) (ap (λ (j : ℕ). take j (order ++ node ∷ [])) (sym q) ∙ take-append_seam order (node ∷ []))
           ∙ elim (tells (is_placed placed m)) [
             | inl t ↦ sym (is.placed_so m i) ∙ t
-            | inr t ↦ absurd (none m (record { leads = ap (λ (x : ℕ). edge x m) (sym g) ∙ e; missing = t; forward = ap (λ (x : ℕ). is_back loops x m) (sym g) ∙ f }))
+            | inr t ↦ absurd (none m (record {
+              leads = ap (λ (x : ℕ). edge x m) (sym g) ∙ e;
+              missing = t;
+              forward = ap (λ (x : ℕ). is_back loops x m) (sym g) ∙ f;
+            }))
           ]
     ];
     open_so = λ n i. elim (is.open_so n i) [
@@ -164,7 +171,8 @@ module _ (edge : ℕ → ℕ → Bool) (loops : Loops) (count : ℕ) (inside : �
             leads = ap (λ (x : ℕ). edge x m) q ∙ u.leads;
             forward = ap (λ (x : ℕ). is_back loops x m) q ∙ u.forward;
             within = there;
-            listed = ap (λ (x : List ℕ). has x n) (waits_same waiting m row l ∙ e) ∙ (has-push (waits_for waiting m) node n ∙ or_right (has (waits_for waiting m) n) (n == node) (eq-eqb n node q));
+            listed = ap (λ (x : List ℕ). has x n) (waits_same waiting m row l ∙ e)
+                ∙ (has-push (waits_for waiting m) node n ∙ or_right (has (waits_for waiting m) n) (n == node) (eq-eqb n node q));
             asleep = sleeps;
           }))
           | inr q ↦ inr (inl q)
@@ -179,7 +187,8 @@ module _ (edge : ℕ → ℕ → Bool) (loops : Loops) (count : ℕ) (inside : �
             | inl q ↦
                 ap (λ (x : ℕ). has (waits_for (set waiting m row) x) n) q.1
                 ∙ (ap (λ (x : List ℕ). has x n) (waits_same waiting m row l ∙ e)
-                ∙ (has-push (waits_for waiting m) node n ∙ or_left (has (waits_for waiting m) n) (n == node) (ap (λ (x : ℕ). has (waits_for waiting x) n) (sym q.1) ∙ w.listed)))
+                ∙ (has-push (waits_for waiting m) node n
+                ∙ or_left (has (waits_for waiting m) n) (n == node) (ap (λ (x : ℕ). has (waits_for waiting x) n) (sym q.1) ∙ w.listed)))
             | inr q ↦ ap (λ (x : List ℕ). has x n) (waits_other waiting m w.at row q.1) ∙ w.listed
           ];
         }))
@@ -191,7 +200,8 @@ module _ (edge : ℕ → ℕ → Bool) (loops : Loops) (count : ℕ) (inside : �
     ]) ∙ is.quiet k h;
     listed = λ k n h. elim (eqb_tells k m) [
       | inl q ↦ elim (or_cases (has (waits_for waiting m) n) (n == node)
-          (sym (ap (λ (x : ℕ). has (waits_for (set waiting m row) x) n) q.1 ∙ (ap (λ (x : List ℕ). has x n) (waits_same waiting m row l ∙ e) ∙ has-push (waits_for waiting m) node n)) ∙ h)) [
+          (sym (ap (λ (x : ℕ). has (waits_for (set waiting m row) x) n) q.1
+          ∙ (ap (λ (x : List ℕ). has x n) (waits_same waiting m row l ∙ e) ∙ has-push (waits_for waiting m) node n)) ∙ h)) [
             | inl a ↦ is.listed m n a
             | inr a ↦ ap inside (equal n node a) ∙ here
           ]
@@ -212,7 +222,8 @@ module _ (edge : ℕ → ℕ → Bool) (loops : Loops) (count : ℕ) (inside : �
       ]
 
 -- the nodes that wait for a node are woken
-pub woken_on : (edge : ℕ → ℕ → Bool) (loops : Loops) (count : ℕ) (inside : ℕ → Bool) (done next : List ℕ) (node : ℕ) (order : List ℕ) (placed : List Bool) (waiting : List (Vec ℕ Global)) (row : Vec ℕ Global)
+pub woken_on : (edge : ℕ → ℕ → Bool) (loops : Loops) (count : ℕ) (inside : ℕ → Bool) (done next : List ℕ) (node : ℕ) (order : List ℕ)
+    (placed : List Bool) (waiting : List (Vec ℕ Global)) (row : Vec ℕ Global)
     → ((n : ℕ) → has next n ≡ (has done n || (n == node))) → has order node ≡ true → node < length waiting → row.items ≡ []
     → IsRanking edge loops count inside done (λ _. false) order placed waiting
     → IsRanking edge loops count inside next (has (waits_for waiting node)) order placed (set waiting node row)
@@ -252,7 +263,8 @@ woken_on edge loops count inside done next node order placed waiting row more pl
   ];
   listed = λ m n h. elim (eqb_tells m node) [
     | inl q ↦
-        let f : has [] n ≡ true = sym (ap (λ (x : ℕ). has (waits_for (set waiting node row) x) n) q.1 ∙ ap (λ (x : List ℕ). has x n) (waits_same waiting node row l ∙ none)) ∙ h in cc
+        let f : has [] n ≡ true = sym (ap (λ (x : ℕ). has (waits_for (set waiting node row) x) n) q.1
+        ∙ ap (λ (x : List ℕ). has x n) (waits_same waiting node row l ∙ none)) ∙ h in cc
     | inr q ↦ is.listed m n (sym (ap (λ (x : List ℕ). has x n) (waits_other waiting node m row q.1)) ∙ h)
   ];
   woken = λ n h. elim (or_cases (has done n) (n == node) (sym (more n) ∙ h)) [
@@ -285,11 +297,13 @@ has_filter p (x ∷ xs) n = by_test (tells (p x)) (has_filter p xs n)
         ])
 
 -- in the end all nodes are placed
-module _ (edge : ℕ → ℕ → Bool) (loops : Loops) (count : ℕ) (nodes done order : List ℕ) (placed : List Bool) (waiting : List (Vec ℕ Global)) (ends : HaveEnds edge loops)
+module _ (edge : ℕ → ℕ → Bool) (loops : Loops) (count : ℕ) (nodes done order : List ℕ) (placed : List Bool) (waiting : List (Vec ℕ Global))
+    (ends : HaveEnds edge loops)
     (all : (n : ℕ) → has order n ≡ true → has done n ≡ true) (is : IsRanking edge loops count (has nodes) done (λ _. false) order placed waiting) where
   left_over : (n : ℕ) → has (filter (λ m. not (has order m)) nodes) n ≡ true → HasForwardNext edge loops (filter (λ m. not (has order m)) nodes) n
   left_over n h =
-      let b : (has nodes n ≡ true) × (not (has order n) ≡ true) = both (has nodes n) (not (has order n)) (sym (has_filter (λ m. not (has order m)) nodes n) ∙ h) in
+      let b : (has nodes n ≡ true) × (not (has order n) ≡ true) =
+      both (has nodes n) (not (has order n)) (sym (has_filter (λ m. not (has order m)) nodes n) ∙ h) in
       let o : has order n ≡ false = not_false (has order n) b.1 in
       elim (is.open_so n b.0) [
         | inl a ↦ cc
@@ -312,9 +326,11 @@ module _ (edge : ℕ → ℕ → Bool) (loops : Loops) (count : ℕ) (nodes done
     | inl t ↦ t
     | inr t ↦
         let f : has (filter (λ m. not (has order m)) nodes) n ≡ false = ends (filter (λ m. not (has order m)) nodes) left_over n in
-        let g : has (filter (λ m. not (has order m)) nodes) n ≡ true = has_filter (λ m. not (has order m)) nodes n ∙ two_true (has nodes n) (not (has order n)) h (ap not t) in cc
+        let g : has (filter (λ m. not (has order m)) nodes) n ≡ true =
+        has_filter (λ m. not (has order m)) nodes n ∙ two_true (has nodes n) (not (has order n)) h (ap not t) in cc
   ]
 
+  -- the nodes that are ranked are in a forward order
   pub ranked_order : IsOrder edge loops (has nodes) order
   ranked_order = record {
     same = λ n. elim (tells (has nodes n)) [
@@ -328,12 +344,14 @@ module _ (edge : ℕ → ℕ → Bool) (loops : Loops) (count : ℕ) (nodes done
     before = is.before;
   }
 
+  -- in the end each node is placed
   pub ranked_all : (n : ℕ) → is_placed placed n ≡ true
   ranked_all n = elim (tells (has nodes n)) [
     | inl t ↦ is.placed_so n t ∙ all_there n t
     | inr t ↦ is.others n t
   ]
 
+  -- in the end no node waits
   pub ranked_quiet : (n : ℕ) → waits_for waiting n ≡ []
   ranked_quiet n = elim (tells (has nodes n)) [
     | inl t ↦ is.quiet n (inr (all n (all_there n t)))
@@ -341,8 +359,10 @@ module _ (edge : ℕ → ℕ → Bool) (loops : Loops) (count : ℕ) (nodes done
   ]
 
 -- no node is placed at first
-pub ranking_begun : (edge : ℕ → ℕ → Bool) (loops : Loops) (count : ℕ) (nodes : List ℕ) (first placed : List Bool) (waiting : List (Vec ℕ Global)) → ((n : ℕ) → has nodes n ≡ true → n < count)
-    → ((n : ℕ) → is_placed first n ≡ true) → ((n : ℕ) → is_placed placed n ≡ cond (has nodes n) false (is_placed first n)) → ((n : ℕ) → waits_for waiting n ≡ [])
+pub ranking_begun : (edge : ℕ → ℕ → Bool) (loops : Loops) (count : ℕ) (nodes : List ℕ) (first placed : List Bool) (waiting : List (Vec ℕ Global))
+    → ((n : ℕ) → has nodes n ≡ true → n < count)
+    → ((n : ℕ) → is_placed first n ≡ true) → ((n : ℕ) → is_placed placed n ≡ cond (has nodes n) false (is_placed first n))
+    → ((n : ℕ) → waits_for waiting n ≡ [])
     → IsRanking edge loops count (has nodes) [] (has nodes) [] placed waiting
 ranking_begun edge loops count nodes first placed waiting below all opened quiet = record {
   below = below;
@@ -375,7 +395,8 @@ opened_on nodes i first placed l w size was = record {
             ∙ sym (ap (λ (b : Bool). cond b false (is_placed first n)) (e ∙ or_right (has (take i nodes) n) (n == get_or nodes i 0) a.0)))
         | inr a ↦
             placed_other placed (get_or nodes i 0) n false a.1
-            ∙ (was n ∙ sym (ap (λ (b : Bool). cond b false (is_placed first n)) (e ∙ (ap (λ (b : Bool). has (take i nodes) n || b) a.0 ∙ nor (has (take i nodes) n)))))
+            ∙ (was n ∙ sym (ap (λ (b : Bool). cond b false (is_placed first n))
+            (e ∙ (ap (λ (b : Bool). has (take i nodes) n || b) a.0 ∙ nor (has (take i nodes) n)))))
       ];
 }
   where
@@ -384,12 +405,15 @@ opened_on nodes i first placed l w size was = record {
     nor false = refl
 
 -- the nodes to be advanced are told otherwise
-pub ranking_told : (edge : ℕ → ℕ → Bool) (loops : Loops) (count : ℕ) (inside : ℕ → Bool) (done next : List ℕ) (pending : ℕ → Bool) (order : List ℕ) (placed : List Bool) (waiting : List (Vec ℕ Global))
+pub ranking_told : (edge : ℕ → ℕ → Bool) (loops : Loops) (count : ℕ) (inside : ℕ → Bool) (done next : List ℕ) (pending : ℕ → Bool) (order : List ℕ)
+    (placed : List Bool) (waiting : List (Vec ℕ Global))
     → done ≡ next → IsRanking edge loops count inside done pending order placed waiting → IsRanking edge loops count inside next pending order placed waiting
-ranking_told edge loops count inside done next pending order placed waiting e is = subst (λ (d : List ℕ). IsRanking edge loops count inside d pending order placed waiting) e is
+ranking_told edge loops count inside done next pending order placed waiting e is =
+    subst (λ (d : List ℕ). IsRanking edge loops count inside d pending order placed waiting) e is
 
 -- the rows of a list of those that wait
-pub waits_read : (waiting : List (Vec ℕ Global)) (n : ℕ) (row : Vec ℕ Global) → n < length waiting → row ≡ get_or waiting n row → row.items ≡ waits_for waiting n
+pub waits_read : (waiting : List (Vec ℕ Global)) (n : ℕ) (row : Vec ℕ Global) → n < length waiting → row ≡ get_or waiting n row
+    → row.items ≡ waits_for waiting n
 waits_read waiting n row l e = ap (λ (r : Vec ℕ Global). r.items) e ∙ sym (ap waiters (slice_get-get_or waiting n row l))
 
 -- the last of the first nodes is taken away
@@ -413,6 +437,7 @@ grown_by order node = record {
   kept = λ k h. take-append-le k order (node ∷ []) h;
 }
 
+-- an order that grows goes on growing
 pub grown_on : (one two three : List ℕ) → HasGrown one two → HasGrown two three → HasGrown one three
 grown_on one two three a b = record {
   longer = omega (arith, a.longer, b.longer);

@@ -1,5 +1,6 @@
 -- Steps with their costs, as these are added up edge by edge.
-use Rattle.std.proofs.Common.{◌≡◌, ◌≢◌, ◌==◌, ◌&&◌, ◌||◌, ℕ, zero, suc, ◌+◌, ◌<◌, inl, inr, Bool, true, false, Some, List, [], ◌∷◌, ◌++◌, length, take, set, get_or, cond, refl, sym, ap, subst, ◌∙◌, arith, Vec, Global}
+use Rattle.std.proofs.Common.{◌≡◌, ◌≢◌, ◌==◌, ◌&&◌, ◌||◌, ℕ, zero, suc, ◌+◌, ◌<◌, inl, inr, Bool, true, false, Some, List, [], ◌∷◌, ◌++◌, length}
+use Rattle.std.proofs.Common.{take, set, get_or, cond, refl, sym, ap, subst, ◌∙◌, arith, Vec, Global}
 use Rattle.std.specs.Prelude.{min}
 use Rattle.std.specs.List.{slice_get}
 use Rattle.std.specs.List.Sorted.{IsStrictlyIncreasing}
@@ -37,7 +38,8 @@ moves_read f (m ∷ nodes) (suc k) d l = moves_read f nodes k d (omega (arith, l
 pub moves_set : (f g : ℕ → ℕ) (nodes : List ℕ) (k : ℕ) → k < length nodes → ((j : ℕ) → j < length nodes → j ≢ k → f (get_or nodes j 0) ≡ g (get_or nodes j 0))
     → set (moves f nodes) k (step_to g (get_or nodes k 0)) ≡ moves g nodes
 moves_set f g [] k l same = absurd (omega (arith, l))
-moves_set f g (m ∷ nodes) zero l same = ap (λ (s : List Step). step_to g m ∷ s) (moves_same_at f g nodes (λ j h. same (suc j) (omega (arith, h)) (λ e. omega (arith, e))))
+moves_set f g (m ∷ nodes) zero l same =
+    ap (λ (s : List Step). step_to g m ∷ s) (moves_same_at f g nodes (λ j h. same (suc j) (omega (arith, h)) (λ e. omega (arith, e))))
   where
     moves_same_at : (f g : ℕ → ℕ) (nodes : List ℕ) → ((j : ℕ) → j < length nodes → f (get_or nodes j 0) ≡ g (get_or nodes j 0)) → moves f nodes ≡ moves g nodes
     moves_same_at f g [] e = refl
@@ -46,7 +48,8 @@ moves_set f g (m ∷ nodes) zero l same = ap (λ (s : List Step). step_to g m �
         ∙ ap (λ (s : List Step). record { to = x; cost = g x } ∷ s) (moves_same_at f g xs (λ j h. e (suc j) (omega (arith, h))))
 moves_set f g (m ∷ nodes) (suc k) l same =
     ap (λ (c : ℕ). record { to = m; cost = c } ∷ set (moves f nodes) k (step_to g (get_or nodes k 0))) (same 0 (omega arith) (λ e. omega (arith, e)))
-    ∙ ap (λ (s : List Step). record { to = m; cost = g m } ∷ s) (moves_set f g nodes k (omega (arith, l)) (λ j h ne. same (suc j) (omega (arith, h)) (λ e. ne (omega (arith, e)))))
+    ∙ ap (λ (s : List Step). record { to = m; cost = g m } ∷ s)
+    (moves_set f g nodes k (omega (arith, l)) (λ j h ne. same (suc j) (omega (arith, h)) (λ e. ne (omega (arith, e)))))
 
 -- rows that are written
 pub steps_set : (rows : List (Vec Step Global)) (n : ℕ) (row : Vec Step Global) → n < length rows → steps_at (set rows n row) n ≡ row.items
@@ -104,12 +107,15 @@ not_added graph rows from to cost none f are = record {
   count = are.count;
   row = λ n. are.row n ∙ moves_same (λ m. cap (f n m)) (λ m. cap (f n m + extra_at (from, to, cost) n m)) (get_or graph n [])
       (λ m h.
-      let z : extra_at (from, to, cost) n m ≡ 0 = no_extra from to cost n m (λ p q. let t : has (get_or graph from []) to ≡ true = ap (λ (k : ℕ). has (get_or graph k []) to) (sym p) ∙ (ap (has (get_or graph n [])) (sym q) ∙ h) in cc) in
+      let z : extra_at (from, to, cost) n m ≡ 0 =
+      no_extra from to cost n m (λ p q. let t : has (get_or graph from []) to ≡ true =
+      ap (λ (k : ℕ). has (get_or graph k []) to) (sym p) ∙ (ap (has (get_or graph n [])) (sym q) ∙ h) in cc) in
       ap (λ (c : ℕ). cap c) (let e : f n m ≡ f n m + extra_at (from, to, cost) n m = omega (arith, z) in e));
 }
 
 -- a cost is added to a step
-pub added_to : (graph : List (List ℕ)) (rows : List (Vec Step Global)) (from to cost place : ℕ) (row : Vec Step Global) (step : Step) → IsStrictlyIncreasing (get_or graph from []) → from < length rows
+pub added_to : (graph : List (List ℕ)) (rows : List (Vec Step Global)) (from to cost place : ℕ) (row : Vec Step Global) (step : Step)
+    → IsStrictlyIncreasing (get_or graph from []) → from < length rows
     → place < length (get_or graph from []) → get_or (get_or graph from []) place 0 ≡ to → row.items ≡ set (steps_at rows from) place step
     → step.to ≡ (get_or (steps_at rows from) place step).to → step.cost ≡ cap ((get_or (steps_at rows from) place step).cost + cost) → (f : ℕ → ℕ → ℕ)
     → AreStepsOf graph (λ n m. cap (f n m)) rows → AreStepsOf graph (λ n m. cap (f n m + extra_at (from, to, cost) n m)) (set rows from row)
@@ -118,12 +124,15 @@ added_to graph rows from to cost place row step rise l h at e named told f are =
   row = λ n. elim (eqb_tells n from) [
     | inl q ↦
         subst (λ (k : ℕ). steps_at (set rows from row) k ≡ moves (λ m. cap (f k m + extra_at (from, to, cost) k m)) (get_or graph k [])) (sym q.1)
-        (steps_set rows from row l ∙ (e ∙ (ap (λ (s : List Step). set s place step) (are.row from) ∙ (ap (λ (s : Step). set (moves (λ m. cap (f from m)) (get_or graph from [])) place s) new
+        (steps_set rows from row l ∙ (e ∙ (ap (λ (s : List Step). set s place step) (are.row from)
+        ∙ (ap (λ (s : Step). set (moves (λ m. cap (f from m)) (get_or graph from [])) place s) new
         ∙ moves_set (λ m. cap (f from m)) (λ m. cap (f from m + extra_at (from, to, cost) from m)) (get_or graph from []) place h
         (λ j b ne.
         let z : extra_at (from, to, cost) from (get_or (get_or graph from []) j 0) ≡ 0 =
         no_extra from to cost from (get_or (get_or graph from []) j 0) (λ p r. ne (rising_once (get_or graph from []) rise j place b h (r ∙ sym at))) in
-        ap (λ (c : ℕ). cap c) (let g : f from (get_or (get_or graph from []) j 0) ≡ f from (get_or (get_or graph from []) j 0) + extra_at (from, to, cost) from (get_or (get_or graph from []) j 0) = omega (arith, z) in g))))))
+        ap (λ (c : ℕ). cap c) (let g : f from (get_or (get_or graph from []) j 0) ≡
+        f from (get_or (get_or graph from []) j 0) + extra_at (from, to, cost) from (get_or (get_or graph from []) j 0) =
+        omega (arith, z) in g))))))
     | inr q ↦
         steps_other rows from n row q.1
         ∙ (are.row n ∙ moves_same (λ m. cap (f n m)) (λ m. cap (f n m + extra_at (from, to, cost) n m)) (get_or graph n [])
@@ -134,7 +143,8 @@ added_to graph rows from to cost place row step rise l h at e named told f are =
 }
   where
     old : get_or (steps_at rows from) place step ≡ record { to = to; cost = cap (f from to) }
-    old = ap (λ (s : List Step). get_or s place step) (are.row from) ∙ (moves_read (λ m. cap (f from m)) (get_or graph from []) place step h ∙ ap (step_to (λ m. cap (f from m))) at)
+    old = ap (λ (s : List Step). get_or s place step) (are.row from)
+        ∙ (moves_read (λ m. cap (f from m)) (get_or graph from []) place step h ∙ ap (step_to (λ m. cap (f from m))) at)
 
     sum : (a b l : ℕ) → min (min a l + b) l ≡ min (a + b) l
     sum a b l = omega arith
@@ -151,7 +161,8 @@ added_to graph rows from to cost place row step rise l h at e named told f are =
         (named ∙ (ap (λ (s : Step). s.to) old ∙ sym at)) (cost_is ∙ ap (λ (k : ℕ). cap (f from k + extra_at (from, to, cost) from k)) (sym at))
 
 -- the extra costs of the edges so far, and one more
-pub extra_more : (extra : List (ℕ × ℕ × ℕ)) (i n m : ℕ) (d : ℕ × ℕ × ℕ) → i < length extra → extra_of (take (i + 1) extra) n m ≡ extra_of (take i extra) n m + extra_at (get_or extra i d) n m
+pub extra_more : (extra : List (ℕ × ℕ × ℕ)) (i n m : ℕ) (d : ℕ × ℕ × ℕ) → i < length extra
+    → extra_of (take (i + 1) extra) n m ≡ extra_of (take i extra) n m + extra_at (get_or extra i d) n m
 extra_more extra i n m d l = ap (λ (e : List (ℕ × ℕ × ℕ)). extra_of e n m) (take_more extra i d l) ∙ push (take i extra) (get_or extra i d)
   where
     push : (xs : List (ℕ × ℕ × ℕ)) (e : ℕ × ℕ × ℕ) → extra_of (xs ++ e ∷ []) n m ≡ extra_of xs n m + extra_at e n m
@@ -169,7 +180,8 @@ pub record ArePlainUpTo (graph : List (List ℕ)) (node : List ℕ) (count : ℕ
 pub plain_none : (graph : List (List ℕ)) (node : List ℕ) → ArePlainUpTo graph node 0 []
 plain_none graph node = record { size = refl; row = λ n l. absurd (omega (arith, l)) }
 
-pub plain_on : (graph : List (List ℕ)) (node : List ℕ) (count : ℕ) (rows : List (Vec Step Global)) (row : Vec Step Global) → row.items ≡ moves (λ m. cap (get_or node count 0)) (get_or graph count [])
+pub plain_on : (graph : List (List ℕ)) (node : List ℕ) (count : ℕ) (rows : List (Vec Step Global)) (row : Vec Step Global)
+    → row.items ≡ moves (λ m. cap (get_or node count 0)) (get_or graph count [])
     → ArePlainUpTo graph node count rows → ArePlainUpTo graph node (count + 1) (rows ++ row ∷ [])
 plain_on graph node count rows row e was = record {
   size = let s : length (rows ++ row ∷ []) ≡ length rows + 1 = length-append rows (row ∷ []) in omega (arith, s, was.size);
@@ -178,7 +190,8 @@ plain_on graph node count rows row e was = record {
     | inr a ↦
         let q : count ≡ n = omega (arith, l, a) in
         subst (λ (k : ℕ). steps_at (rows ++ row ∷ []) k ≡ moves (λ m. cap (get_or node k 0)) (get_or graph k [])) q
-        (subst (λ (k : ℕ). steps_at (rows ++ row ∷ []) k ≡ moves (λ m. cap (get_or node count 0)) (get_or graph count [])) was.size (ap items_of (get_last rows row) ∙ e))
+        (subst (λ (k : ℕ). steps_at (rows ++ row ∷ []) k ≡ moves (λ m. cap (get_or node count 0)) (get_or graph count [])) was.size
+        (ap items_of (get_last rows row) ∙ e))
   ];
 }
   where
@@ -191,6 +204,7 @@ plain_on graph node count rows row e was = record {
     get_last [] x = refl
     get_last (y ∷ xs) x = get_last xs x
 
+-- each node has its edges with plain costs
 pub plain_done : (graph : List (List ℕ)) (node : List ℕ) (count : ℕ) (rows : List (Vec Step Global)) → count ≡ length graph → ArePlainUpTo graph node count rows
     → AreStepsOf graph (λ n m. cap (get_or node n 0)) rows
 plain_done graph node count rows e was = record {
@@ -204,19 +218,24 @@ plain_done graph node count rows e was = record {
 }
 
 -- steps whose costs are the same
-pub steps_same : (graph : List (List ℕ)) (f g : ℕ → ℕ → ℕ) (rows : List (Vec Step Global)) → ((n m : ℕ) → f n m ≡ g n m) → AreStepsOf graph f rows → AreStepsOf graph g rows
+pub steps_same : (graph : List (List ℕ)) (f g : ℕ → ℕ → ℕ) (rows : List (Vec Step Global)) → ((n m : ℕ) → f n m ≡ g n m) → AreStepsOf graph f rows
+    → AreStepsOf graph g rows
 steps_same graph f g rows e are = record { count = are.count; row = λ n. are.row n ∙ moves_same (f n) (g n) (get_or graph n []) (λ m h. e n m) }
 
 -- steps lead to nodes
-pub steps_within : (graph : List (List ℕ)) (cost : ℕ → ℕ → ℕ) (rows : List (Vec Step Global)) → ((n m : ℕ) → has (get_or graph n []) m ≡ true → m < length graph) → AreStepsOf graph cost rows
+pub steps_within : (graph : List (List ℕ)) (cost : ℕ → ℕ → ℕ) (rows : List (Vec Step Global))
+    → ((n m : ℕ) → has (get_or graph n []) m ≡ true → m < length graph) → AreStepsOf graph cost rows
     → (n k : ℕ) (step : Step) → slice_get (steps_at rows n) k ≡ Some step → step.to < length graph
-steps_within graph cost rows within are n k step e = within n step.to (there (cost n) (get_or graph n []) k (ap (λ (s : List Step). slice_get s k) (sym (are.row n)) ∙ e))
+steps_within graph cost rows within are n k step e =
+    within n step.to (there (cost n) (get_or graph n []) k (ap (λ (s : List Step). slice_get s k) (sym (are.row n)) ∙ e))
   where
     there : (f : ℕ → ℕ) (nodes : List ℕ) (k : ℕ) → slice_get (moves f nodes) k ≡ Some step → has nodes step.to ≡ true
     there f [] k e = cc
-    there f (m ∷ nodes) zero e = let q : m ≡ step.to = ap (λ (s : Step). s.to) (some_step e) in ap (λ (b : Bool). b || has nodes step.to) (eq-eqb step.to m (sym q))
+    there f (m ∷ nodes) zero e = let q : m ≡ step.to =
+        ap (λ (s : Step). s.to) (some_step e) in ap (λ (b : Bool). b || has nodes step.to) (eq-eqb step.to m (sym q))
     there f (m ∷ nodes) (suc k) e = or_right (step.to == m) (has nodes step.to) (there f nodes k e)
 
+-- one extra cost more is added
 pub one_extra : (f : ℕ) (extra : List (ℕ × ℕ × ℕ)) (i n m : ℕ) (d : ℕ × ℕ × ℕ) → i < length extra
     → cap (f + extra_of (take i extra) n m + extra_at (get_or extra i d) n m) ≡ cap (f + extra_of (take (i + 1) extra) n m)
 one_extra f extra i n m d l =

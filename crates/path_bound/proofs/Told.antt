@@ -1,5 +1,6 @@
 -- The labels that are told are the labels without a limit, up to the limit; and the walks to which they lead cost so much.
-use Rattle.std.proofs.Common.{◌≡◌, ◌==◌, ◌||◌, ◌⊎◌, ℕ, zero, suc, ◌+◌, ◌<◌, ◌≤◌, inl, inr, Bool, true, false, not, Option, Some, None, List, [], ◌∷◌, length, take, get_or, cond, refl, sym, ap, subst, ◌∙◌, arith, ltb, Vec, Global, zero-add}
+use Rattle.std.proofs.Common.{◌≡◌, ◌==◌, ◌||◌, ◌⊎◌, ℕ, zero, suc, ◌+◌, ◌<◌, ◌≤◌, inl, inr, Bool, true, false, not, Option, Some, None, List, [], ◌∷◌}
+use Rattle.std.proofs.Common.{length, take, get_or, cond, refl, sym, ap, subst, ◌∙◌, arith, ltb, Vec, Global, zero-add}
 use Rattle.std.specs.Prelude.{min}
 use Rattle.std.proofs.lemmas.Bool.{ltb-true, ltb-false, lt-ltb}
 use Rattle.std.proofs.lemmas.Bool.Decides.{eqb_tells}
@@ -58,19 +59,23 @@ behind_capped laps costs cost m None (Some y) e c = absurd c
 behind_capped laps costs cost m (Some x) None e c = absurd c
 behind_capped laps costs cost m (Some x) (Some y) e c = summed (cost m) (costs m) (laps m) x.cost y.cost limit (e x refl) c
 
-asked_capped : (b : Bool) (laps costs : ℕ → ℕ) (cost : ℕ → ℕ) (m : ℕ) (o p : Option Label) → (b ≡ false → (x : Label) → o ≡ Some x → laps m ≡ cap (costs m)) → (b ≡ false → IsCapped o p)
+asked_capped : (b : Bool) (laps costs : ℕ → ℕ) (cost : ℕ → ℕ) (m : ℕ) (o p : Option Label)
+    → (b ≡ false → (x : Label) → o ≡ Some x → laps m ≡ cap (costs m)) → (b ≡ false → IsCapped o p)
     → IsCapped (cond b (Some (record { cost = cap (cost m); next = None })) (behind cap laps (step_to (λ k. cap (cost k)) m) o))
     (cond b (Some (record { cost = cost m; next = None })) (behind exact costs (step_to cost m) p))
 asked_capped true laps costs cost m o p e c = refl
 asked_capped false laps costs cost m o p e c = behind_capped laps costs cost m o p (e refl) (c refl)
 
-best_capped : (head : Option ℕ) (laps costs : ℕ → ℕ) (label other : ℕ → Option Label) (cost : ℕ → ℕ) (nodes : List ℕ) (one two : Option Label) → IsCapped one two
+best_capped : (head : Option ℕ) (laps costs : ℕ → ℕ) (label other : ℕ → Option Label) (cost : ℕ → ℕ) (nodes : List ℕ) (one two : Option Label)
+    → IsCapped one two
     → ((m : ℕ) → has nodes m ≡ true → IsCapped (asked cap head laps label (step_to (λ k. cap (cost k)) m)) (asked exact head costs other (step_to cost m)))
     → IsCapped (best_of cap head laps label one (moves (λ k. cap (cost k)) nodes)) (best_of exact head costs other two (moves cost nodes))
 best_capped head laps costs label other cost [] one two c each = c
 best_capped head laps costs label other cost (m ∷ nodes) one two c each =
-    best_capped head laps costs label other cost nodes (greater one (asked cap head laps label (step_to (λ k. cap (cost k)) m))) (greater two (asked exact head costs other (step_to cost m)))
-    (greater_capped one two (asked cap head laps label (step_to (λ k. cap (cost k)) m)) (asked exact head costs other (step_to cost m)) c (each m (has_first m nodes)))
+    best_capped head laps costs label other cost nodes (greater one (asked cap head laps label (step_to (λ k. cap (cost k)) m)))
+    (greater two (asked exact head costs other (step_to cost m)))
+    (greater_capped one two (asked cap head laps label (step_to (λ k. cap (cost k)) m)) (asked exact head costs other (step_to cost m)) c
+    (each m (has_first m nodes)))
     (λ k h. each k (or_right (k == m) (has nodes k) h))
 
 start_capped : (head : Option ℕ) (cost : ℕ) → IsCapped (start_at head (cap cost)) (start_at head cost)
@@ -104,23 +109,29 @@ pub record IsTrip (t : Task) (inside : ℕ → Bool) (head : Option ℕ) (laps :
   pub cost : one.cost ≡ cap (toll t.costs laps n rest + end_cost t head (end_of n rest))
 
 -- labels of one pass over an order of some nodes
-module _ (t : Task) (inside : ℕ → Bool) (order : List ℕ) (is : IsForwardOrder (is_edge t.graph) t.loops inside order) (head : Option ℕ) (node : List ℕ) (steps : List (Vec Step Global))
+module _ (t : Task) (inside : ℕ → Bool) (order : List ℕ) (is : IsForwardOrder (is_edge t.graph) t.loops inside order) (head : Option ℕ)
+    (node : List ℕ) (steps : List (Vec Step Global))
     (laps : List ℕ) (labels : List (Option Label)) (passed : ArePassed order head node steps laps labels)
     (nodes : (n : ℕ) → get_or node n 0 ≡ t.costs.node n) (rows : (n : ℕ) → steps_at steps n ≡ moves (λ m. cap (move_of t n m)) (row_of t n)) where
   outside : (n : ℕ) → inside n ≡ false → label_at labels n ≡ None
   outside n o = passed.others n (is.sorted.same n ∙ o)
 
   next_at : (k : ℕ) → k < length order → label_at labels (get_or order k 0)
-      ≡ best_of cap head (λ m. get_or laps m 0) (only (goes t inside (get_or order k 0)) (label_at labels)) (start_at head (cap (t.costs.node (get_or order k 0))))
+      ≡ best_of cap head (λ m. get_or laps m 0) (only (goes t inside (get_or order k 0)) (label_at labels))
+      (start_at head (cap (t.costs.node (get_or order k 0))))
       (moves (λ m. cap (move_of t (get_or order k 0) m)) (row_of t (get_or order k 0)))
   next_at k l =
       let n : ℕ = get_or order k 0 in
       passed.labelled k l
-      ∙ (ap (λ (c : ℕ). best_of cap head (λ m. get_or laps m 0) (only (has (take k order)) (label_at labels)) (start_at head (cap c)) (steps_at steps n)) (nodes n)
-      ∙ (ap (λ (s : List Step). best_of cap head (λ m. get_or laps m 0) (only (has (take k order)) (label_at labels)) (start_at head (cap (t.costs.node n))) s) (rows n)
-      ∙ best_same cap head (λ m. get_or laps m 0) (λ m. get_or laps m 0) (only (has (take k order)) (label_at labels)) (only (goes t inside n) (label_at labels)) (λ m. cap (move_of t n m)) (row_of t n)
+      ∙ (ap (λ (c : ℕ). best_of cap head (λ m. get_or laps m 0) (only (has (take k order)) (label_at labels)) (start_at head (cap c))
+      (steps_at steps n)) (nodes n)
+      ∙ (ap (λ (s : List Step). best_of cap head (λ m. get_or laps m 0) (only (has (take k order)) (label_at labels))
+      (start_at head (cap (t.costs.node n))) s) (rows n)
+      ∙ best_same cap head (λ m. get_or laps m 0) (λ m. get_or laps m 0) (only (has (take k order)) (label_at labels))
+      (only (goes t inside n) (label_at labels)) (λ m. cap (move_of t n m)) (row_of t n)
       (start_at head (cap (t.costs.node n)))
-      (λ m e. ap (λ (o : Option Label). cond (is_end head m) (Some (record { cost = cap (move_of t n m); next = None })) (behind cap (λ m. get_or laps m 0) (step_to (λ m. cap (move_of t n m)) m) o))
+      (λ m e. ap (λ (o : Option Label). cond (is_end head m) (Some (record { cost = cap (move_of t n m); next = None }))
+      (behind cap (λ m. get_or laps m 0) (step_to (λ m. cap (move_of t n m)) m) o))
       (only_both (has (take k order) m) (goes t inside n m) (label_at labels m)
       (λ h. two_true (inside m) (not (is_back t.loops n m)) (earlier k m h) (ap not (is.forward k m l e h)))
       (λ h. inl (is.sorted.before k m l (goes_inside t inside n m h) e (goes_forward t inside n m h)))))))
@@ -137,30 +148,41 @@ module _ (t : Task) (inside : ℕ → Bool) (order : List ℕ) (is : IsForwardOr
       earlier k m h = sym (is.sorted.same m) ∙ taken k order m h
 
   pub told_next : (n : ℕ) → IsAt order n → label_at labels n
-      ≡ best_of cap head (λ m. get_or laps m 0) (only (goes t inside n) (label_at labels)) (start_at head (cap (t.costs.node n))) (moves (λ m. cap (move_of t n m)) (row_of t n))
+      ≡ best_of cap head (λ m. get_or laps m 0) (only (goes t inside n) (label_at labels)) (start_at head (cap (t.costs.node n)))
+      (moves (λ m. cap (move_of t n m)) (row_of t n))
   told_next n at = subst (λ (x : ℕ). label_at labels x
-      ≡ best_of cap head (λ m. get_or laps m 0) (only (goes t inside x) (label_at labels)) (start_at head (cap (t.costs.node x))) (moves (λ m. cap (move_of t x m)) (row_of t x)))
+      ≡ best_of cap head (λ m. get_or laps m 0) (only (goes t inside x) (label_at labels)) (start_at head (cap (t.costs.node x)))
+      (moves (λ m. cap (move_of t x m)) (row_of t x)))
       at.is (next_at at.place at.within)
 
-  module _ (rank : ℕ → ℕ) (size : ℕ) (small : (n : ℕ) → rank n < size) (falls : (n m : ℕ) → is_edge t.graph n m ≡ true → is_back t.loops n m ≡ false → rank m < rank n)
-      (all : (n : ℕ) → inside n ≡ true → IsAt order n) (costs : ℕ → ℕ) (told : (m : ℕ) → inside m ≡ true → is_end head m ≡ false → get_or laps m 0 ≡ cap (costs m)) where
+  module _ (rank : ℕ → ℕ) (size : ℕ) (small : (n : ℕ) → rank n < size)
+      (falls : (n m : ℕ) → is_edge t.graph n m ≡ true → is_back t.loops n m ≡ false → rank m < rank n)
+      (all : (n : ℕ) → inside n ≡ true → IsAt order n) (costs : ℕ → ℕ)
+      (told : (m : ℕ) → inside m ≡ true → is_end head m ≡ false → get_or laps m 0 ≡ cap (costs m)) where
     capped_by : (k n : ℕ) → rank n < k → inside n ≡ true → IsCapped (label_at labels n) (labels_by t inside head costs size n)
     capped_by zero n l i = absurd (omega (arith, l))
     capped_by (suc k) n l i =
         let a : label_at labels n
-        ≡ best_of cap head (λ m. get_or laps m 0) (only (goes t inside n) (label_at labels)) (start_at head (cap (t.costs.node n))) (moves (λ m. cap (move_of t n m)) (row_of t n)) =
+        ≡ best_of cap head (λ m. get_or laps m 0) (only (goes t inside n) (label_at labels)) (start_at head (cap (t.costs.node n)))
+        (moves (λ m. cap (move_of t n m)) (row_of t n)) =
         told_next n (all n i) in
-        let b : labels_by t inside head costs size n ≡ label_next t inside head costs (labels_by t inside head costs size) n = label_fixed t rank size small falls inside head costs n in
-        let c : IsCapped (best_of cap head (λ m. get_or laps m 0) (only (goes t inside n) (label_at labels)) (start_at head (cap (t.costs.node n))) (moves (λ m. cap (move_of t n m)) (row_of t n)))
+        let b : labels_by t inside head costs size n ≡ label_next t inside head costs (labels_by t inside head costs size) n =
+        label_fixed t rank size small falls inside head costs n in
+        let c : IsCapped (best_of cap head (λ m. get_or laps m 0) (only (goes t inside n) (label_at labels)) (start_at head (cap (t.costs.node n)))
+        (moves (λ m. cap (move_of t n m)) (row_of t n)))
         (label_next t inside head costs (labels_by t inside head costs size) n) =
-        best_capped head (λ m. get_or laps m 0) costs (only (goes t inside n) (label_at labels)) (only (goes t inside n) (labels_by t inside head costs size)) (move_of t n) (row_of t n)
+        best_capped head (λ m. get_or laps m 0) costs (only (goes t inside n) (label_at labels))
+        (only (goes t inside n) (labels_by t inside head costs size)) (move_of t n) (row_of t n)
         (start_at head (cap (t.costs.node n))) (start_at head (t.costs.node n)) (start_capped head (t.costs.node n))
-        (λ m e. asked_capped (is_end head m) (λ m. get_or laps m 0) costs (move_of t n) m (only (goes t inside n) (label_at labels) m) (only (goes t inside n) (labels_by t inside head costs size) m)
+        (λ m e. asked_capped (is_end head m) (λ m. get_or laps m 0) costs (move_of t n) m (only (goes t inside n) (label_at labels) m)
+        (only (goes t inside n) (labels_by t inside head costs size) m)
         (λ o x q. told m (goes_inside t inside n m (of_one (goes t inside n m) (label_at labels m) x q)) o)
         (λ o. of_two (goes t inside n m) (label_at labels m) (labels_by t inside head costs size m)
         (λ g. capped_by k m (let r : rank m < rank n = falls n m e (goes_forward t inside n m g) in omega (arith, l, r)) (goes_inside t inside n m g)))) in
         subst (λ (o : Option Label). IsCapped o (labels_by t inside head costs size n)) (sym a)
-        (subst (λ (o : Option Label). IsCapped (best_of cap head (λ m. get_or laps m 0) (only (goes t inside n) (label_at labels)) (start_at head (cap (t.costs.node n))) (moves (λ m. cap (move_of t n m)) (row_of t n))) o) (sym b) c)
+        (subst (λ (o : Option Label). IsCapped
+        (best_of cap head (λ m. get_or laps m 0) (only (goes t inside n) (label_at labels)) (start_at head (cap (t.costs.node n)))
+        (moves (λ m. cap (move_of t n m)) (row_of t n))) o) (sym b) c)
       where
         of_two : (g : Bool) (o p : Option Label) → (g ≡ true → IsCapped o p) → IsCapped (cond g o None) (cond g p None)
         of_two true o p f = f refl
@@ -170,11 +192,14 @@ module _ (t : Task) (inside : ℕ → Bool) (order : List ℕ) (is : IsForwardOr
         of_one true o x e = refl
         of_one false o x e = cc
 
+    -- a label in the list is the true one, capped
     pub told_capped : (n : ℕ) → inside n ≡ true → IsCapped (label_at labels n) (labels_by t inside head costs size n)
     told_capped n i = capped_by (suc (rank n)) n (omega arith) i
 
-  module _ (rank : ℕ → ℕ) (falls : (n m : ℕ) → is_edge t.graph n m ≡ true → is_back t.loops n m ≡ false → rank m < rank n) (all : (n : ℕ) → inside n ≡ true → IsAt order n) where
-    ended : (h : Option ℕ) (n : ℕ) (one : Label) → head ≡ h → IsEnding t h n (λ i m. cap (move_of t i m)) one → IsTrip t inside h (λ m. get_or laps m 0) rank n [] one
+  module _ (rank : ℕ → ℕ) (falls : (n m : ℕ) → is_edge t.graph n m ≡ true → is_back t.loops n m ≡ false → rank m < rank n)
+      (all : (n : ℕ) → inside n ≡ true → IsAt order n) where
+    ended : (h : Option ℕ) (n : ℕ) (one : Label) → head ≡ h → IsEnding t h n (λ i m. cap (move_of t i m)) one
+        → IsTrip t inside h (λ m. get_or laps m 0) rank n [] one
     ended None n one e x = let o : false ≡ true = x.ends in cc
     ended (Some h) n one e x =
         let same : h ≡ x.node = equal h x.node x.ends in
@@ -202,7 +227,8 @@ module _ (t : Task) (inside : ℕ → Bool) (order : List ℕ) (is : IsForwardOr
     }
     begun (Some h) n one e = cc
 
-    arrived : (n m : ℕ) (rest : List ℕ) (one two : Label) → is_edge t.graph n m ≡ true → goes t inside n m ≡ true → one.cost ≡ cap (cap (cap (move_of t n m) + get_or laps m 0) + two.cost)
+    arrived : (n m : ℕ) (rest : List ℕ) (one two : Label) → is_edge t.graph n m ≡ true → goes t inside n m ≡ true
+        → one.cost ≡ cap (cap (cap (move_of t n m) + get_or laps m 0) + two.cost)
         → IsTrip t inside head (λ m. get_or laps m 0) rank m rest two → IsTrip t inside head (λ m. get_or laps m 0) rank n (m ∷ rest) one
     arrived n m rest one two e g q trip =
         let f : is_back t.loops n m ≡ false = goes_forward t inside n m g in
@@ -213,17 +239,21 @@ module _ (t : Task) (inside : ℕ → Bool) (order : List ℕ) (is : IsForwardOr
           stays = (goes_inside t inside n m g, trip.stays);
           falls = λ limit l. (lt-ltb (rank m) limit (omega (arith, r, l)), trip.falls limit (omega (arith, r, l)));
           back = trip.back;
-          cost = q ∙ added (move_of t n m) (get_or laps m 0) two.cost (toll t.costs (λ m. get_or laps m 0) m rest) (end_cost t head (end_of m rest)) limit trip.cost;
+          cost = q ∙ added (move_of t n m) (get_or laps m 0) two.cost (toll t.costs (λ m. get_or laps m 0) m rest)
+              (end_cost t head (end_of m rest)) limit trip.cost;
         }
       where
         added : (c p a s z l : ℕ) → a ≡ min (s + z) l → min (min (min c l + p) l + a) l ≡ min (c + p + s + z) l
         added c p a s z l h = omega (arith, h)
 
-    pub trip_of : (rest : List ℕ) (n : ℕ) (one : Label) → inside n ≡ true → label_at labels n ≡ Some one → Leads labels n rest → next_of (label_at labels (end_of n rest)) ≡ None
+    -- a label leads along a walk of its cost
+    pub trip_of : (rest : List ℕ) (n : ℕ) (one : Label) → inside n ≡ true → label_at labels n ≡ Some one → Leads labels n rest
+        → next_of (label_at labels (end_of n rest)) ≡ None
         → IsTrip t inside head (λ m. get_or laps m 0) rank n rest one
     trip_of [] n one i e leads ends =
         let last : one.next ≡ None = sym (ap next_of e) ∙ ends in
-        elim (chosen_of t cap head (λ m. get_or laps m 0) (label_at labels) (goes t inside n) (λ i m. cap (move_of t i m)) n (start_at head (cap (t.costs.node n))) one (sym (told_next n (all n i)) ∙ e)) [
+        elim (chosen_of t cap head (λ m. get_or laps m 0) (label_at labels) (goes t inside n) (λ i m. cap (move_of t i m)) n
+        (start_at head (cap (t.costs.node n))) one (sym (told_next n (all n i)) ∙ e)) [
           | inl x ↦ begun head n one x
           | inr y ↦ elim y [
             | inl x ↦ ended head n one refl x
@@ -232,7 +262,8 @@ module _ (t : Task) (inside : ℕ → Bool) (order : List ℕ) (is : IsForwardOr
         ]
     trip_of (m ∷ rest) n one i e leads ends =
         let first : one.next ≡ Some m = sym (ap next_of e) ∙ leads.0 in
-        elim (chosen_of t cap head (λ m. get_or laps m 0) (label_at labels) (goes t inside n) (λ i m. cap (move_of t i m)) n (start_at head (cap (t.costs.node n))) one (sym (told_next n (all n i)) ∙ e)) [
+        elim (chosen_of t cap head (λ m. get_or laps m 0) (label_at labels) (goes t inside n) (λ i m. cap (move_of t i m)) n
+        (start_at head (cap (t.costs.node n))) one (sym (told_next n (all n i)) ∙ e)) [
           | inl x ↦ let o : one.next ≡ None = starts head (cap (t.costs.node n)) one x in cc
           | inr y ↦ elim y [
             | inl x ↦ let o : one.next ≡ None = ap (λ (o : Label). o.next) x.is in cc

@@ -1,5 +1,6 @@
 -- Labels of one pass, walks to which they lead, and turns.
-use Rattle.std.specs.Prelude.{◌≡◌, ℕ, ◌+◌, ◌-◌, ◌*◌, ◌<◌, ◌≤◌, ◌↔◌, Bool, IsTrue, true, false, List, [], ◌∷◌, length, take, slice_index, slice_get, slice_set, Option, Some, None, Vec}
+use Rattle.std.specs.Prelude.{◌≡◌, ℕ, ◌+◌, ◌-◌, ◌*◌, ◌<◌, ◌≤◌, ◌↔◌, Bool, IsTrue, true, false, List, [], ◌∷◌, length, take, slice_index, slice_get}
+use Rattle.std.specs.Prelude.{slice_set, Option, Some, None, Vec}
 use Rattle.std.specs.declared.alloc.Global.{Global}
 use Rattle.bt_base.specs.Graph.{has}
 use Rattle.graph_laws.specs.Walk.{Costs, end_of}

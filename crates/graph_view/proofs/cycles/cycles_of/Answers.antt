@@ -1,7 +1,7 @@
 use Rattle.std.proofs.Common.{◌≡◌, ◌<◌, ◌≤◌, ◌∙◌, ℕ, List, Option, Some, length, vec_len, arith, subst, sym}
 use Rattle.bt_base.specs.Graph.{is_edge, rows_of}
 use Rattle.cyclic_parts.specs.Parts.{AreParts, name_of}
-use Rattle.graph_view.proofs.Rounds.{cycles_are}
+use Rattle.graph_view.proofs.Rounds.{cycles_are, cycles_are_one}
 use Rattle.graph_view.proofs.cycles.cycles_of.Goals as goal
 use Rattle.graph_view.specs.Cycles.{AreGathered, AreRisen}
 
@@ -35,4 +35,5 @@ returns c =
       each = λ n low.
           cycles_are c.args.subs.now c.args.callings.now c.args.graph.now c.in_ok-names.names.items (rows_of c.in_ok-calls.calls.items) (rows_of c.put_rows_in_order.new.rows.items)
           c.requires.callers c.requires.graph parts gathered (vec_len c.in_ok-calls.calls) rises (let e : length c.args.subs.now ≤ vec_len c.in_ok-calls.calls = omega (arith, count) in e) n low;
+      one = cycles_are_one c.args.subs.now c.args.callings.now c.args.graph.now c.in_ok-names.names.items c.requires.callers c.requires.graph parts;
     }

@@ -11,9 +11,11 @@ pub loop-place-preserved : goal.loop-place-preserved
 loop-place-preserved c =
     let e = c.in_ok-is.ensures {u = tt} in
     let one : Loop = get_or c.args.loops.now c.loop-place.place c.index-loops-place.result in
-    let at : slice_get c.args.loops.now c.loop-place.place ≡ Some one = slice_get-get_or c.args.loops.now c.loop-place.place c.index-loops-place.result c.loop-place-test.true in
+    let at : slice_get c.args.loops.now c.loop-place.place ≡ Some one =
+    slice_get-get_or c.args.loops.now c.loop-place.place c.index-loops-place.result c.loop-place-test.true in
     let w : one.head < length c.loop-place.large.items =
-    (let b : one.head < length c.args.places.now = c.requires.loops.heads c.loop-place.place one at in omega (arith, b, c.requires.count, c.loop-place.invariant.size)) in
+    (let b : one.head < length c.args.places.now =
+    c.requires.loops.heads c.loop-place.place one at in omega (arith, b, c.requires.count, c.loop-place.invariant.size)) in
     record {
       size = length-set c.loop-place.large.items one.head c.in_ok-is.is' ∙ c.loop-place.invariant.size;
       sizes = record {
@@ -25,9 +27,11 @@ loop-place-preserved c =
       };
       ready = e.ready;
       none = e.none;
-      each = each_on (is_edge c.args.graph.now) c.args.loops.now c.requires.loops.rising c.args.node.now c.args.steps.now c.args.laps.now c.loop-place.large.items c.loop-place.place one at w c.in_ok-is.is' (e.weighed one at)
+      each = each_on (is_edge c.args.graph.now) c.args.loops.now c.requires.loops.rising c.args.node.now c.args.steps.now c.args.laps.now
+          c.loop-place.large.items c.loop-place.place one at w c.in_ok-is.is' (e.weighed one at)
           c.loop-place.invariant.each;
-      others = others_on (is_edge c.args.graph.now) c.args.loops.now c.requires.loops.rising c.args.node.now c.args.steps.now c.args.laps.now c.loop-place.large.items c.loop-place.place one at w c.in_ok-is.is' (e.weighed one at)
+      others = others_on (is_edge c.args.graph.now) c.args.loops.now c.requires.loops.rising c.args.node.now c.args.steps.now c.args.laps.now
+          c.loop-place.large.items c.loop-place.place one at w c.in_ok-is.is' (e.weighed one at)
           c.loop-place.invariant.others;
     }
 

@@ -15,6 +15,7 @@ invariant-loop-place l = record {
   sizes : AreSized (length l.graph) l.node l.steps l.laps l.labels;
   ready : IsReady (length l.graph) l.ranking;
   none : NoLabels l.labels;
-  each : (k : ℕ) (one : Loop) → k < l.place → slice_get l.loops k ≡ Some one → IsWeighed (is_edge l.graph) (loops_in l.loops) one l.node l.steps l.laps (is_marked l.large.items one.head);
+  each : (k : ℕ) (one : Loop) → k < l.place → slice_get l.loops k ≡ Some one
+      → IsWeighed (is_edge l.graph) (loops_in l.loops) one l.node l.steps l.laps (is_marked l.large.items one.head);
   others : (n : ℕ) → l.place ≤ place_of l.loops n → is_marked l.large.items n ≡ false;
 }

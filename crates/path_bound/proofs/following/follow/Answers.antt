@@ -28,4 +28,5 @@ pub returns-in-None : goal.returns-in-None
 returns-in-None c = way_done c.args.labels.now c.args.from c.loop-step.node c.loop-step.walk.items c.loop-step.invariant.way (sym c.in-None.ensures)
 
 pub returns : goal.returns
-returns c = let k : rank_in c.args.order.now c.loop-step.node + c.loop-step._step < length c.args.order.now = c.loop-step.invariant.low in absurd (omega (arith, k, c.loop-step-test.false))
+returns c = let k : rank_in c.args.order.now c.loop-step.node + c.loop-step._step < length c.args.order.now =
+    c.loop-step.invariant.low in absurd (omega (arith, k, c.loop-step-test.false))

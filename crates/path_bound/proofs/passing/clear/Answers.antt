@@ -10,4 +10,5 @@ bounds-labels-node c =
     omega (arith, w, c.loop-node.invariant.size)
 
 pub loop-node-preserved : goal.loop-node-preserved
-loop-node-preserved c = cleared_on c.args.nodes.now c.loop-node.node-index c.args.labels.now c.loop-node.labels c.loop-node-test.true (bounds-labels-node c) c.loop-node.invariant.size c.loop-node.invariant.labels
+loop-node-preserved c = cleared_on c.args.nodes.now c.loop-node.node-index c.args.labels.now c.loop-node.labels c.loop-node-test.true
+    (bounds-labels-node c) c.loop-node.invariant.size c.loop-node.invariant.labels

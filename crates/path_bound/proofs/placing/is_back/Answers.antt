@@ -21,4 +21,5 @@ returns-in-Some c =
     ∙ (found_is_there c.deref.result.now c.args.from c.binary_search.result rise c.binary_search.ensures.position
     ∙ (ap (λ (l : List ℕ). has l c.args.from) c.deref.ensures.value
     ∙ sym (ap (λ (x : Bool). x && (loops_in c.args.loops.now).body c.args.to c.args.from) (back_some c.args.loops.now c.args.to c.in-Some.place e)
-    ∙ ap (λ (o : Option Loop). held o c.args.from) (ap (slice_get c.args.loops.now) b.0 ∙ slice_get-get_or c.args.loops.now c.in-Some.place c.index-loops-place.result b.1))))
+    ∙ ap (λ (o : Option Loop). held o c.args.from)
+    (ap (slice_get c.args.loops.now) b.0 ∙ slice_get-get_or c.args.loops.now c.in-Some.place c.index-loops-place.result b.1))))

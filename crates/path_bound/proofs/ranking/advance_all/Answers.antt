@@ -6,7 +6,8 @@ use Rattle.path_bound.proofs.ranking.advance_all.Goals as goal
 
 pub advance-requires-clause-node : goal.advance-requires-clause-node
 advance-requires-clause-node c =
-    c.requires.nodes (get_or c.args.nodes.now (c.loop-left.left - 1) 0) (has_at c.args.nodes.now (c.loop-left.left - 1) (omega (arith, c.loop-left.invariant.few, c.loop-left-test.true)))
+    c.requires.nodes (get_or c.args.nodes.now (c.loop-left.left - 1) 0)
+    (has_at c.args.nodes.now (c.loop-left.left - 1) (omega (arith, c.loop-left.invariant.few, c.loop-left-test.true)))
 
 pub loop-left-preserved : goal.loop-left-preserved
 loop-left-preserved c =
@@ -20,5 +21,6 @@ loop-left-preserved c =
       ranking = λ inside done all is.
           e.ranking inside done (has (take (c.loop-left.left - 1) c.args.nodes.now)) (has (take c.loop-left.left c.args.nodes.now))
           (last_taken c.args.nodes.now c.loop-left.left (omega (arith, c.loop-left-test.true)) c.loop-left.invariant.few)
-          (all (get_or c.args.nodes.now (c.loop-left.left - 1) 0) (has_at c.args.nodes.now (c.loop-left.left - 1) w)) (c.loop-left.invariant.ranking inside done all is);
+          (all (get_or c.args.nodes.now (c.loop-left.left - 1) 0) (has_at c.args.nodes.now (c.loop-left.left - 1) w))
+          (c.loop-left.invariant.ranking inside done all is);
     }

@@ -12,8 +12,10 @@ invariant-loop-left l = record {
   waiting : length l.ranking.waiting.items ≡ length l.graph;
   grown : HasGrown l.initial.order.items l.order.items;
   ranking : (inside : ℕ → Bool) (done : List ℕ) → ((n : ℕ) → has l.nodes n ≡ true → inside n ≡ true)
-      → IsRanking (is_edge l.graph) (loops_in l.loops) (length l.graph) inside done (has l.nodes) l.initial.order.items l.initial.ranking.placed.items l.initial.ranking.waiting.items
-      → IsRanking (is_edge l.graph) (loops_in l.loops) (length l.graph) inside done (has (take l.left l.nodes)) l.order.items l.ranking.placed.items l.ranking.waiting.items;
+      → IsRanking (is_edge l.graph) (loops_in l.loops) (length l.graph) inside done
+      (has l.nodes) l.initial.order.items l.initial.ranking.placed.items l.initial.ranking.waiting.items
+      → IsRanking (is_edge l.graph) (loops_in l.loops) (length l.graph) inside done
+      (has (take l.left l.nodes)) l.order.items l.ranking.placed.items l.ranking.waiting.items;
 }
 
 abbrev pub decreases-loop-left : goal.decreases-loop-left

@@ -13,4 +13,5 @@ pub loop-node-preserved : goal.loop-node-preserved
 loop-node-preserved c =
     let w : get_or c.args.nodes.now c.loop-node.node-index 0 < length c.args.placed.now =
     c.requires (get_or c.args.nodes.now c.loop-node.node-index 0) (has_at c.args.nodes.now c.loop-node.node-index c.loop-node-test.true) in
-    opened_on c.args.nodes.now c.loop-node.node-index c.args.placed.now c.loop-node.placed c.loop-node-test.true (omega (arith, w, c.loop-node.invariant.size)) c.loop-node.invariant.size c.loop-node.invariant.opened
+    opened_on c.args.nodes.now c.loop-node.node-index c.args.placed.now c.loop-node.placed c.loop-node-test.true
+    (omega (arith, w, c.loop-node.invariant.size)) c.loop-node.invariant.size c.loop-node.invariant.opened

@@ -9,5 +9,6 @@ abbrev pub invariant-loop-place : goal.invariant-loop-place
 invariant-loop-place l = record {
   placed : length l.ranking.placed.items ≡ length l.graph;
   waiting : length l.ranking.waiting.items ≡ length l.graph;
-  ranking : IsRanking (is_edge l.graph) (loops_in l.loops) (length l.graph) (has l.nodes) (take l.place l.order.items) (λ _. false) l.order.items l.ranking.placed.items l.ranking.waiting.items;
+  ranking : IsRanking (is_edge l.graph) (loops_in l.loops) (length l.graph) (has l.nodes) (take l.place l.order.items)
+      (λ _. false) l.order.items l.ranking.placed.items l.ranking.waiting.items;
 }

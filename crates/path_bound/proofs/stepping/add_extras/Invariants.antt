@@ -8,5 +8,6 @@ use Rattle.path_bound.proofs.stepping.add_extras.Given as goal
 abbrev pub invariant-loop-from : goal.invariant-loop-from
 invariant-loop-from l = record {
   rows : AreRows l.graph l.rows;
-  added : (f : ℕ → ℕ → ℕ) → AreStepsOf l.graph (λ n m. cap (f n m)) l.initial.rows → AreStepsOf l.graph (λ n m. cap (f n m + extra_of (take l.from-index l.extra) n m)) l.rows;
+  added : (f : ℕ → ℕ → ℕ) → AreStepsOf l.graph (λ n m. cap (f n m)) l.initial.rows
+      → AreStepsOf l.graph (λ n m. cap (f n m + extra_of (take l.from-index l.extra) n m)) l.rows;
 }

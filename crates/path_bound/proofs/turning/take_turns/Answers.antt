@@ -4,7 +4,8 @@ use Rattle.path_bound.specs.Turned.{task_of, AreTurnedUpTo}
 use Rattle.path_bound.proofs.turning.take_turns.Goals as goal
 
 pub take_head-requires-clause-at : goal.take_head-requires-clause-at
-take_head-requires-clause-at c = c.requires.order (get_or c.args.order.now c.loop-at.at-index 0) (has_at c.args.order.now c.loop-at.at-index c.loop-at-test.true)
+take_head-requires-clause-at c = c.requires.order (get_or c.args.order.now c.loop-at.at-index 0)
+    (has_at c.args.order.now c.loop-at.at-index c.loop-at-test.true)
 
 pub loop-at-preserved : goal.loop-at-preserved
 loop-at-preserved c =
@@ -24,5 +25,6 @@ loop-at-preserved c =
 
 pub returns-clause-turns : goal.returns-clause-turns
 returns-clause-turns c =
-    subst (λ (k : ℕ). AreTurnedUpTo (task_of c.args.graph.now c.args.loops.now c.args.bounds.now c.args.costs.now) c.args.loops.now c.args.order.now k c.loop-at.laps c.loop-at.turns)
+    subst (λ (k : ℕ). AreTurnedUpTo (task_of c.args.graph.now c.args.loops.now c.args.bounds.now c.args.costs.now) c.args.loops.now c.args.order.now
+    k c.loop-at.laps c.loop-at.turns)
     (let e : c.loop-at.at-index ≡ length c.args.order.now = omega (arith, c.loop-at-test.false, c.loop-at.auto.at-index-end) in e) c.loop-at.invariant.turned
