@@ -1,5 +1,6 @@
 -- The facts of a context answer, and enter what they call.
-use Rattle.std.proofs.Common.{◌≡◌, ℕ, ◌<◌, Bool, true, false, List, [], ◌∷◌, ◌++◌, length, Option, Some, None, Contains, IsTrue, refl, sym, ap, subst, ◌∙◌, arith, inl, inr}
+use Rattle.std.proofs.Common.{◌≡◌, ℕ, ◌<◌, Bool, true, false, List, [], ◌∷◌, ◌++◌, length, Option, Some, None, Contains, IsTrue, refl, sym, ap, subst}
+use Rattle.std.proofs.Common.{◌∙◌, arith, inl, inr}
 use Rattle.std.specs.Prelude.{◌==◌, is_some, map, not, get_or}
 use Rattle.std.specs.List.{All}
 use Rattle.std.proofs.lemmas.Bool.{eq-eqb, eqb-true, false≢true}
@@ -25,7 +26,8 @@ use Rattle.transfer_rules.proofs.System.{fit_stays}
 use Rattle.transfer_rules.specs.Closed.{HasCall, HasState, IsAllowed, IsTaken, LeadsTo, Says}
 use Rattle.transfer_rules.specs.Fact.{Piece, fits, is_at_most, state_in}
 use Rattle.transfer_rules.specs.Family.{Family, Program}
-use Rattle.transfer_rules.specs.Give.{Facts, act_beside, act_entered, act_gives, act_here, arguments, callee_of, entered, entered_to, entered_with, entry_of, given_if, gives, node_gives, pieces_of, starts}
+use Rattle.transfer_rules.specs.Give.{Facts, act_beside, act_entered, act_gives, act_here, arguments, callee_of, entered, entered_to, entered_with}
+use Rattle.transfer_rules.specs.Give.{entry_of, given_if, gives, node_gives, pieces_of, starts}
 use Rattle.transfer_rules.specs.Given.{sub_of}
 use Rattle.transfer_rules.specs.Lawful.{IsLawfulFamily, IsLawfulProgram, rules_of}
 use Rattle.transfer_rules.specs.declared.act.Act.{Act}
@@ -41,7 +43,8 @@ use Rattle.context_facts.proofs.Least.{entry_up, given_among}
 use Rattle.context_facts.proofs.OwnPieces.{closed_off, fewer_given, own_given}
 use Rattle.context_facts.specs.Context.{AreLawful, ContextsAnswer, ContextsEnter, IsAmong, IsContext, is_local, with_others}
 
-module _ (t more : List ℕ) (f g : Family) (m : Program) (x : Facts) (sub : ℕ) (args : List Value) (s : Facts) (lawful : AreLawful t more f g m) (closed : IsClosed (rules_of t f m) x) (context : IsContext more g m x sub args s) where
+module _ (t more : List ℕ) (f g : Family) (m : Program) (x : Facts) (sub : ℕ) (args : List Value) (s : Facts) (lawful : AreLawful t more f g m)
+    (closed : IsClosed (rules_of t f m) x) (context : IsContext more g m x sub args s) where
   z_fits : (k : Key) (v : Fact) → with_others s x k ≡ Some v → fits more k v ≡ true
   z_fits (key.Node p) v found = context.fit (key.Node p) v found
   z_fits (key.Edge p q) v found = context.fit (key.Edge p q) v found
@@ -95,9 +98,11 @@ module _ (t more : List ℕ) (f g : Family) (m : Program) (x : Facts) (sub : ℕ
 
   z_closed : IsClosed (rules_of more g (closed_off m)) (with_others s x)
   z_closed = record { fit = z_fits; starts = begins; given = gives_on } where
-    stubs : All (λ (piece : Piece). ContainsPiece (rules_of more g (closed_off m)) (with_others s x) piece.0 piece.1) (map (λ stub. (key.Summary stub, fact.Sum effects_of_stub)) m.stubs)
+    stubs : All (λ (piece : Piece). ContainsPiece (rules_of more g (closed_off m)) (with_others s x) piece.0 piece.1)
+        (map (λ stub. (key.Summary stub, fact.Sum effects_of_stub)) m.stubs)
     stubs =
-        All-map (λ (piece : Piece). ContainsPiece (rules_of more g (closed_off m)) (with_others s x) piece.0 piece.1) (λ stub. (key.Summary stub, fact.Sum effects_of_stub)) m.stubs
+        All-map (λ (piece : Piece). ContainsPiece (rules_of more g (closed_off m)) (with_others s x) piece.0 piece.1)
+        (λ stub. (key.Summary stub, fact.Sum effects_of_stub)) m.stubs
         (λ k d h.
         (let says = closed_starts.stubs t f m x (get_or m.stubs k d) closed (Contains-get_or m.stubs k d h) in
         record { fact = fact.Sum says.all; found = says.found; above = says.above }))
@@ -138,7 +143,8 @@ module _ (t more : List ℕ) (f g : Family) (m : Program) (x : Facts) (sub : ℕ
     goes_on = λ p n step before after is at. leads_s p _ after (all.goes_on p n step before after (taken_z p step Onward before after is) at);
     first = λ p step exit other before after u is left. leads_s p _ u (all.first p step exit other before after u (taken_z p step _ before after is) left);
     second = λ p step exit other before after u is left. leads_s p _ u (all.second p step exit other before after u (taken_z p step _ before after is) left);
-    calls = λ p target step aim before after is has apart. leads_s p _ after (all.calls p target step aim before after (taken_z p step _ before after is) has apart);
+    calls = λ p target step aim before after is has apart. leads_s p _ after
+        (all.calls p target step aim before after (taken_z p step _ before after is) has apart);
     jumps = λ p target step aim before after is has. leads_s p _ after (all.jumps p target step aim before after (taken_z p step _ before after is) has);
     returns = λ p c step before after is may. leads_s p _ after (all.returns p c step before after (taken_z p step _ before after is) may);
     makes_call = λ p target step before after is at.
@@ -166,30 +172,39 @@ module _ (t more : List ℕ) (f g : Family) (m : Program) (x : Facts) (sub : ℕ
       let state = state_above (entered_with (arguments step.depth after)) among.fact among.above in
       record { state = state.0; found = among.found ∙ ap Some state.1; above = state.2 }
     where
-      in_act : Contains (act_gives g m p (Acts step Onward) (callee_of p.next (with_others s x)) before) (key.Node (entry_of target), fact.State (entered_with (arguments step.depth after)))
+      in_act : Contains (act_gives g m p (Acts step Onward) (callee_of p.next (with_others s x)) before)
+          (key.Node (entry_of target), fact.State (entered_with (arguments step.depth after)))
       in_act =
           Contains-append_right (act_beside g m p (Acts step Onward) (callee_of p.next (with_others s x)) before)
           (act_here g p (Acts step Onward) (callee_of p.next (with_others s x)) before ++ act_entered g m p (Acts step Onward) before)
           (key.Node (entry_of target), fact.State (entered_with (arguments step.depth after)))
           (Contains-append_right (act_here g p (Acts step Onward) (callee_of p.next (with_others s x)) before) (act_entered g m p (Acts step Onward) before)
           (key.Node (entry_of target), fact.State (entered_with (arguments step.depth after)))
-          (subst (λ (o : Option State). Contains (pieces_of o (entered m p step Onward)) (key.Node (entry_of target), fact.State (entered_with (arguments step.depth after)))) (sym is.stepped)
-          (subst (λ (n : Next). Contains (entered_to n m step.depth after) (key.Node (entry_of target), fact.State (entered_with (arguments step.depth after)))) (sym next)
+          (subst (λ (o : Option State). Contains (pieces_of o (entered m p step Onward))
+          (key.Node (entry_of target), fact.State (entered_with (arguments step.depth after)))) (sym is.stepped)
+          (subst (λ (n : Next). Contains (entered_to n m step.depth after)
+          (key.Node (entry_of target), fact.State (entered_with (arguments step.depth after)))) (sym next)
           (subst (λ (b : Bool). Contains (given_if (not b) ((key.Node (entry_of target), fact.State (entered_with (arguments step.depth after))) ∷ []))
           (key.Node (entry_of target), fact.State (entered_with (arguments step.depth after)))) (sym followed) (0, omega arith, refl)))))
 
       in_given : Contains (gives g m (key.Node p) (with_others s x)) (key.Node (entry_of target), fact.State (entered_with (arguments step.depth after)))
       in_given =
-          subst (λ (o : Option Fact). Contains (pieces_of (state_in o) (node_gives g m p (callee_of p.next (with_others s x)))) (key.Node (entry_of target), fact.State (entered_with (arguments step.depth after)))) (sym is.allowed.found)
-          (subst (λ (o : Option State). Contains (pieces_of o (act_gives g m p (m.act p) (callee_of p.next (with_others s x)))) (key.Node (entry_of target), fact.State (entered_with (arguments step.depth after)))) (sym is.allowed.narrowed)
-          (subst (λ (a : Act). Contains (act_gives g m p a (callee_of p.next (with_others s x)) before) (key.Node (entry_of target), fact.State (entered_with (arguments step.depth after)))) (sym is.act) in_act))
+          subst (λ (o : Option Fact). Contains (pieces_of (state_in o) (node_gives g m p (callee_of p.next (with_others s x))))
+          (key.Node (entry_of target), fact.State (entered_with (arguments step.depth after)))) (sym is.allowed.found)
+          (subst (λ (o : Option State). Contains (pieces_of o (act_gives g m p (m.act p) (callee_of p.next (with_others s x))))
+          (key.Node (entry_of target), fact.State (entered_with (arguments step.depth after)))) (sym is.allowed.narrowed)
+          (subst (λ (a : Act). Contains (act_gives g m p a (callee_of p.next (with_others s x)) before)
+          (key.Node (entry_of target), fact.State (entered_with (arguments step.depth after)))) (sym is.act) in_act))
 
       among : IsAmong x (key.Node (entry_of target)) (fact.State (entered_with (arguments step.depth after)))
       among = in_whole p (key.Node (entry_of target)) (fact.State (entered_with (arguments step.depth after))) (ap is_some is.allowed.found) in_given
 
+-- the facts of a context lead on within them, and the closed state says of subprograms and of gaps what they give
 pub contexts_answer : ContextsAnswer
 contexts_answer t more f g m x sub args s lawful closed context = contexts_answer_here t more f g m x sub args s lawful closed context
 
+-- what a program point of a context calls is entered: in a context of the subprogram whose arguments have those of the
+-- call, and in the closed state
 pub contexts_enter : ContextsEnter
 contexts_enter = record { context = into; whole = whole } where
   into : (t more other : List ℕ) (f g h : Family) (m : Program) (x : Facts) (sub target : ℕ) (args theirs : List Value) (s u : Facts) (p : Place) (step : Step)

@@ -1,5 +1,6 @@
 -- The least local map of a context is its facts.
-use Rattle.std.proofs.Common.{◌≡◌, ℕ, zero, suc, ◌<◌, Bool, true, false, List, [], ◌∷◌, length, Option, Some, None, Contains, IsTrue, refl, sym, ap, subst, ◌∙◌, arith, inl, inr, if◌then◌else◌}
+use Rattle.std.proofs.Common.{◌≡◌, ℕ, zero, suc, ◌<◌, Bool, true, false, List, [], ◌∷◌, length, Option, Some, None, Contains, IsTrue, refl, sym, ap}
+use Rattle.std.proofs.Common.{subst, ◌∙◌, arith, inl, inr, if◌then◌else◌}
 use Rattle.std.specs.Prelude.{◌==◌, is_some, slice_index_or}
 use Rattle.std.specs.List.{All}
 use Rattle.std.proofs.lemmas.Bool.{both_ways, cases_Bool, eq-eqb, false≢true}
@@ -34,6 +35,7 @@ use Rattle.transfer_rules.specs.declared.fact.Fact.{Fact}
 use Rattle.transfer_rules.specs.declared.fact.Fact.TheVariants as fact
 use Rattle.context_facts.specs.Context.{AreLawful, IsAmong, IsContext, IsKept, LeastMapsAreContexts, is_local, with_others}
 
+-- the state at an entry is at most itself
 pub entry_up : (t : List ℕ) → IsThresholds t → is_state_at_most entry_state entry_state ≡ true
 entry_up t is = states_are_ordered.same t entry_state (writes_stand.entry t is)
 
@@ -68,7 +70,9 @@ only_piece one piece has = by has.0 has.1 has.2 where
   by zero below is = is
   by (suc k) below is = absurd (omega arith)
 
-module _ (t more : List ℕ) (f g : Family) (m : Program) (x : Facts) (sub : ℕ) (args : List Value) (keep : List Key) (fixed : List Piece) (lawful : AreLawful t more f g m) (closed : IsClosed (rules_of t f m) x) (entry : HasState x (entry_of sub) (entered_with args)) (kept : IsKept x sub keep fixed) where
+module _ (t more : List ℕ) (f g : Family) (m : Program) (x : Facts) (sub : ℕ) (args : List Value) (keep : List Key) (fixed : List Piece)
+    (lawful : AreLawful t more f g m) (closed : IsClosed (rules_of t f m) x) (entry : HasState x (entry_of sub) (entered_with args))
+    (kept : IsKept x sub keep fixed) where
   -- the closed state at the kept keys
   abbrev within : Facts
   within k = if is_listed compare keep k then x k else None
@@ -128,17 +132,21 @@ module _ (t more : List ℕ) (f g : Family) (m : Program) (x : Facts) (sub : ℕ
     fit : (k : Key) (v : Fact) → within k ≡ Some v → fits more k v ≡ true
     fit k v found = fit_more k v (within_is k v found).0
 
-    starts : (k : Key) (v : Fact) → Contains {X = Piece} ((key.Node (entry_of sub), fact.State (entered_with args)) ∷ []) (k, v) → ContainsPiece (rules_of more g m) within k v
+    starts : (k : Key) (v : Fact) → Contains {X = Piece} ((key.Node (entry_of sub), fact.State (entered_with args)) ∷ []) (k, v)
+        → ContainsPiece (rules_of more g m) within k v
     starts k v has =
-        subst (λ (piece : Piece). ContainsPiece (rules_of more g m) within piece.0 piece.1) (only_piece (key.Node (entry_of sub), fact.State (entered_with args)) (k, v) has)
+        subst (λ (piece : Piece). ContainsPiece (rules_of more g m) within piece.0 piece.1)
+        (only_piece (key.Node (entry_of sub), fact.State (entered_with args)) (k, v) has)
         (record { fact = fact.State entry.state; found = within_at (key.Node (entry_of sub)) entry_listed ∙ entry.found; above = entry.above })
 
     given : (k : Key) → is_some (within k) ≡ true → (j : Key) (v : Fact) → Contains (gives g m k (beside_fixed compare keep fixed within)) (j, v)
         → IsTrue (is_listed compare keep j) → ContainsPiece (rules_of more g m) within j v
     given (key.Node p) there j v has listed =
         let here = in_keep (key.Node p) there in
-        let pieces : Contains (gives g m (key.Node p) (with_others within x)) (j, v) = subst (λ (ps : List Piece). Contains ps (j, v)) (same_beside within p here) has in
-        let among = given_among t more f g m x (with_others within x) lawful closed (λ k w found. fit_more k w (others_fit k w found)) (λ k w found. among_itself k w (others_fit k w found)) p j v
+        let pieces : Contains (gives g m (key.Node p) (with_others within x)) (j, v) =
+        subst (λ (ps : List Piece). Contains ps (j, v)) (same_beside within p here) has in
+        let among = given_among t more f g m x (with_others within x) lawful closed (λ k w found. fit_more k w (others_fit k w found))
+        (λ k w found. among_itself k w (others_fit k w found)) p j v
         (((kept.keeps (key.Node p)).0 here).1) pieces in
         record { fact = among.fact; found = within_at j listed ∙ among.found; above = among.above }
     given (key.Edge p q) there j v has listed = absurd (let low = has.1 in omega arith)
@@ -146,7 +154,8 @@ module _ (t more : List ℕ) (f g : Family) (m : Program) (x : Facts) (sub : ℕ
     given (key.Summary q) there j v has listed = absurd (let low = has.1 in omega arith)
     given (key.Gap q pc kind) there j v has listed = absurd (let low = has.1 in omega arith)
 
-  pub least_is_context : (s : Facts) → IsLeastLocal compare (rules_of more g m) ((key.Node (entry_of sub), fact.State (entered_with args)) ∷ []) keep fixed s → IsContext more g m x sub args s
+  pub least_is_context : (s : Facts) → IsLeastLocal compare (rules_of more g m)
+      ((key.Node (entry_of sub), fact.State (entered_with args)) ∷ []) keep fixed s → IsContext more g m x sub args s
   least_is_context s least = record { fit = least.closed.fit; enters = enters; local = local; below = below; given = given } where
     enters : HasState s (entry_of sub) (entered_with args)
     enters =
@@ -166,10 +175,14 @@ module _ (t more : List ℕ) (f g : Family) (m : Program) (x : Facts) (sub : ℕ
         → is_local sub k ≡ true → is_some (x k) ≡ true → IsAmong s k v
     given p k v there has own known =
         let here = least.closed.kept (key.Node p) there in
-        let pieces : Contains (gives g m (key.Node p) (beside_fixed compare keep fixed s)) (k, v) = subst (λ (ps : List Piece). Contains ps (k, v)) (sym (same_beside s p here)) has in
+        let pieces : Contains (gives g m (key.Node p) (beside_fixed compare keep fixed s)) (k, v) =
+        subst (λ (ps : List Piece). Contains ps (k, v)) (sym (same_beside s p here)) has in
         let in_s = least.closed.given (key.Node p) there k v pieces ((kept.keeps k).1 (own, known)) in
         record { fact = in_s.fact; found = in_s.found; above = in_s.above }
 
+-- the least local map of a context, over the program points, edges and calls that a closed state has of its subprogram,
+-- is the facts of the context: it is below the closed state, though its thresholds are more, because what is given rises
+-- with facts and falls with thresholds
 pub least_maps_are_contexts : LeastMapsAreContexts
 least_maps_are_contexts t more f g m x sub args keep fixed s lawful closed entry kept restricts least =
     least_is_context t more f g m x sub args keep fixed lawful closed entry kept s least

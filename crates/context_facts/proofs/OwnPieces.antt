@@ -1,8 +1,10 @@
 -- What a place gives where no subprogram is entered: pieces of its own subprogram, and some of all that it gives.
-use Rattle.std.proofs.Common.{◌≡◌, ℕ, ◌+◌, ◌<◌, ◌⊎◌, inl, inr, Bool, true, false, List, [], ◌∷◌, ◌++◌, length, Option, Some, None, Contains, refl, sym, ap, subst, ◌∙◌, arith}
+use Rattle.std.proofs.Common.{◌≡◌, ℕ, ◌+◌, ◌<◌, ◌⊎◌, inl, inr, Bool, true, false, List, [], ◌∷◌, ◌++◌, length, Option, Some, None, Contains, refl}
+use Rattle.std.proofs.Common.{sym, ap, subst, ◌∙◌, arith}
 use Rattle.std.specs.Prelude.{◌==◌, not, if◌then◌else◌}
 use Rattle.std.specs.List.{All, flat_map}
-use Rattle.std.proofs.lemmas.List.Elements.{All-append, All-cons, All-contains, All-nil, Contains-append_cases, Contains-append_left, Contains-append_right, Contains-get_or}
+use Rattle.std.proofs.lemmas.List.Elements.{All-append, All-cons, All-contains, All-nil, Contains-append_cases, Contains-append_left}
+use Rattle.std.proofs.lemmas.List.Elements.{Contains-append_right, Contains-get_or}
 use Rattle.call_effects.specs.Mask.{after_call}
 use Rattle.call_effects.specs.declared.summary.Summary.{Summary as Effects}
 use Rattle.value_lattice.specs.Test.{is_at_most as is_value_at_most}
@@ -18,7 +20,9 @@ use Rattle.abs_state.specs.declared.key.Next.TheVariants.{At, Into, Back}
 use Rattle.abs_state.specs.declared.key.Place.{Place}
 use Rattle.transfer_rules.specs.Fact.{Piece, state_in}
 use Rattle.transfer_rules.specs.Family.{Family, Program}
-use Rattle.transfer_rules.specs.Give.{Facts, act_beside, act_entered, act_gives, act_here, arguments, behind, beside, beside_to, called, called_effects, called_to, callee_of, delayed, effects, entered, entered_to, exits, gap, given_if, gives, goes, here, here_to, is_behind, is_known, jumped_to, mask_of, node_gives, onward, pieces_of, place}
+use Rattle.transfer_rules.specs.Give.{Facts, act_beside, act_entered, act_gives, act_here, arguments, behind, beside, beside_to, called}
+use Rattle.transfer_rules.specs.Give.{called_effects, called_to, callee_of, delayed, effects, entered, entered_to, exits, gap, given_if, gives, goes}
+use Rattle.transfer_rules.specs.Give.{here, here_to, is_behind, is_known, jumped_to, mask_of, node_gives, onward, pieces_of, place}
 use Rattle.transfer_rules.specs.Given.{sub_of}
 use Rattle.transfer_rules.specs.declared.act.Act.{Act}
 use Rattle.transfer_rules.specs.declared.act.Act.TheVariants.{Dead, Open, Acts}
@@ -64,7 +68,8 @@ some_of : {A : Type 0} (o : Option A) (give other : A → List Piece) (piece : P
 some_of None give other piece more has = has
 some_of (Some a) give other piece more has = more a has
 
-beside_same : (f : Family) (m : Program) (p : Place) (act : Act) (c : Option Effects) (s : State) (piece : Piece) → Contains (act_beside f (closed_off m) p act c s) piece
+beside_same : (f : Family) (m : Program) (p : Place) (act : Act) (c : Option Effects) (s : State) (piece : Piece)
+    → Contains (act_beside f (closed_off m) p act c s) piece
     → Contains (act_beside f m p act c s) piece
 beside_same f m p Dead c s piece has = has
 beside_same f m p (Open kind) c s piece has = has
@@ -79,7 +84,8 @@ beside_same f m p (Acts step (CallsTo aim)) c s piece has = has
 beside_same f m p (Acts step (JumpsTo aim)) c s piece has = has
 beside_same f m p (Acts step (ReturnsBy x)) c s piece has = has
 
-fewer_act : (f : Family) (m : Program) (p : Place) (act : Act) (c : Option Effects) (s : State) (piece : Piece) → Contains (act_gives f (closed_off m) p act c s) piece
+fewer_act : (f : Family) (m : Program) (p : Place) (act : Act) (c : Option Effects) (s : State) (piece : Piece)
+    → Contains (act_gives f (closed_off m) p act c s) piece
     → Contains (act_gives f m p act c s) piece
 fewer_act f m p act c s piece has =
     elim (Contains-append_cases (act_beside f (closed_off m) p act c s) (act_here f p act c s ++ act_entered f (closed_off m) p act s) piece has) [
@@ -94,6 +100,7 @@ fewer_act f m p act c s piece has =
           ]
     ]
 
+-- what a place gives without entering is among what it gives
 pub fewer_given : (f : Family) (m : Program) (p : Place) (x : Facts) (piece : Piece) → Contains (gives f (closed_off m) (key.Node p) x) piece
     → Contains (gives f m (key.Node p) x) piece
 fewer_given f m p x piece has =
@@ -131,8 +138,10 @@ module _ (f : Family) (m : Program) (p : Place) where
   own_called depth e s =
       All-append Own (given_if e.returns (goes p (onward p (behind p.pc 4) depth) (without s (after_call e.written depth))))
       (given_if e.skips (goes p (onward p (behind p.pc 8) depth) (without s (after_call e.written depth))))
-      (own_if e.returns (goes p (onward p (behind p.pc 4) depth) (without s (after_call e.written depth))) (own_goes (onward p (behind p.pc 4) depth) (without s (after_call e.written depth)) refl))
-      (own_if e.skips (goes p (onward p (behind p.pc 8) depth) (without s (after_call e.written depth))) (own_goes (onward p (behind p.pc 8) depth) (without s (after_call e.written depth)) refl))
+      (own_if e.returns (goes p (onward p (behind p.pc 4) depth) (without s (after_call e.written depth)))
+      (own_goes (onward p (behind p.pc 4) depth) (without s (after_call e.written depth)) refl))
+      (own_if e.skips (goes p (onward p (behind p.pc 8) depth) (without s (after_call e.written depth)))
+      (own_goes (onward p (behind p.pc 8) depth) (without s (after_call e.written depth)) refl))
 
   own_here_to : (next : Next) (depth : ℕ) (c : Option Effects) (s : State) → All Own (here_to next p depth c s)
   own_here_to (At n) depth c s = own_goes (onward p n depth) s refl
@@ -181,6 +190,7 @@ module _ (f : Family) (m : Program) (p : Place) where
       (own_of (f.step step s) (here f p step way c s) (λ u. own_here step way c s u))
       (λ k d h. absurd (no_act f m p (Acts step way) s _ (Contains-get_or (act_entered f (closed_off m) p (Acts step way) s) k d h))))
 
+  -- what a place gives without entering is of its subprogram
   pub own_given : (x : Facts) (piece : Piece) → Contains (gives f (closed_off m) (key.Node p) x) piece → sub_of piece.0 ≡ p.sub
   own_given x piece has =
       All-contains Own (gives f (closed_off m) (key.Node p) x) piece

@@ -85,7 +85,8 @@ ContextsAnswer =
 -- what a program point of a context calls: a context of the subprogram whose arguments have those of the call has the entry of
 -- the call, and so has the closed state
 pub record ContextsEnter : Type 0 where
-  pub context : (t more other : List ℕ) (f g h : Family) (m : Program) (x : Facts) (sub target : ℕ) (args theirs : List Value) (s u : Facts) (p : Place) (step : Step)
+  pub context : (t more other : List ℕ) (f g h : Family) (m : Program) (x : Facts) (sub target : ℕ) (args theirs : List Value) (s u : Facts)
+      (p : Place) (step : Step)
       (before after : State) → AreLawful t more f g m → IsClosed (rules_of t f m) x → IsContext more g m x sub args s → IsContext other h m x target theirs u
       → ((list : List Value) → s (key.Call p target) ≡ Some (fact.Args list) → are_at_most list theirs ≡ true)
       → IsTaken g m s p step Onward before after → p.next ≡ Into target → HasState u (entry_of target) (entered_with (arguments step.depth after))

@@ -1,6 +1,7 @@
 -- Frames of a run keep to their contexts: each step within a frame is along an edge of its graph and is paid by it, each call is
 -- one of the context, and each return goes on along an edge.
-use Rattle.std.proofs.Common.{◌≡◌, ℕ, suc, ◌+◌, ◌%◌, ◌^◌, ◌<◌, ◌≤◌, inl, inr, Bool, true, false, List, [], ◌∷◌, ◌++◌, Option, Some, None, refl, sym, ap, subst, ◌∙◌, arith}
+use Rattle.std.proofs.Common.{◌≡◌, ℕ, suc, ◌+◌, ◌%◌, ◌^◌, ◌<◌, ◌≤◌, inl, inr, Bool, true, false, List, [], ◌∷◌, ◌++◌, Option, Some, None, refl, sym}
+use Rattle.std.proofs.Common.{ap, subst, ◌∙◌, arith}
 use Rattle.std.specs.Prelude.{is_some, if◌then◌else◌}
 use Rattle.std.specs.Option.{option_map}
 use Rattle.abs_state.specs.State.{State}
@@ -10,7 +11,8 @@ use Rattle.abs_state.specs.declared.key.Place.{Place}
 use Rattle.assert_bind.specs.Binding.{stub}
 use Rattle.assert_bind.specs.declared.body.BoundAssertion.{BoundAssertion}
 use Rattle.context_runs.proofs.Linking.{AreBelow, AreLinked}
-use Rattle.context_runs.proofs.Placing.{above_is_free, stub_is_free, called_there, facts_are, followed, follows_step, linked, node_is, running, waits_there, clear_of, window}
+use Rattle.context_runs.proofs.Placing.{above_is_free, stub_is_free, called_there, facts_are, followed, follows_step, linked, node_is, running}
+use Rattle.context_runs.proofs.Placing.{waits_there, clear_of, window}
 use Rattle.context_runs.specs.Contexts.{Contexts, IsCalled, facts_of, follows_from, standing_of}
 use Rattle.context_runs.specs.Joined.{AreFrames, IsFrame, IsJoinable, move_of, root_of, run_of}
 use Rattle.frame_laws.specs.Activation.{Activation, last_of, stack_at}
@@ -113,7 +115,8 @@ module _
 
     on : (i : ℕ) (a : Activation) (callers : List Activation) → i ≤ last → these_at i ≡ a ∷ callers → IsOn i a callers
     on i a callers within are = by (frames_at image first rest i) refl
-        (subst (λ (l : List Activation). AreLinked F image costs first rest i l (frames_at image first rest i)) are (linked F image costs list x root first rest last (join.placed) i within)) where
+        (subst (λ (l : List Activation). AreLinked F image costs first rest i l (frames_at image first rest i)) are
+        (linked F image costs list x root first rest last (join.placed) i within)) where
           by : (frames : List Frame) → frames_at image first rest i ≡ frames → AreLinked F image costs first rest i (a ∷ callers) frames → IsOn i a callers
           by [] is l = elim l [ ]
           by (f ∷ below) is l = record { f = f; below = below; are = is; frame = l.0; lastly = l.1; frames = l.2; belows = l.3 }
@@ -135,13 +138,17 @@ module _
     node_there i c f below due within are is context =
         let here = followed F image costs list x root first rest last (join.placed) i within in
         let holds = subst
-        (λ (l : List Frame). Holds image list (facts_of F x) x (window F image costs list x root first rest last (join.placed)) (due_at image first rest i) l (at i))
+        (λ (l : List Frame). Holds image list (facts_of F x) x (window F image costs list x root first rest last (join.placed))
+        (due_at image first rest i) l (at i))
         are
         here.holds in
-        let clear = clear_of image costs list F x ((join.placed).filled) (window F image costs list x root first rest last (join.placed)) (due_at image first rest i) f below (at i) c holds context in
-        let there = subst (λ (d : Transfer). state_in (facts_of F x (f ∷ below) (key.Node (place_of d f (at i)))) ≡ Some (clear.stands).state) is (clear.stands).is in
+        let clear = clear_of image costs list F x ((join.placed).filled) (window F image costs list x root first rest last (join.placed))
+        (due_at image first rest i) f below (at i) c holds context in
+        let there = subst (λ (d : Transfer). state_in (facts_of F x (f ∷ below) (key.Node (place_of d f (at i)))) ≡ Some (clear.stands).state) is
+        (clear.stands).is in
         let fact = found (facts_of F x (f ∷ below) (key.Node (place_of due f (at i)))) (clear.stands).state there in
-        subst (λ (facts : Facts). is_some (facts (key.Node (place_of due f (at i)))) ≡ true) (facts_are image costs list F x (join.placed).filled (f ∷ below) c context) fact
+        subst (λ (facts : Facts). is_some (facts (key.Node (place_of due f (at i)))) ≡ true)
+        (facts_are image costs list F x (join.placed).filled (f ∷ below) c context) fact
 
     -- a step that passes nothing over pays its node
     pays_node : (i c : ℕ) (f : Frame) (below : List Frame) (due : Transfer) → i < last → frames_at image first rest i ≡ f ∷ below
@@ -191,7 +198,8 @@ module _
           subst
               (λ (k : ℕ).
               (at (suc i)).cycles + owed image costs (at (suc i))
-              ≤ (at i).cycles + owed image costs (at i) + ((F.family c).own).node k + ((F.family c).own).edge k ((run_of F image costs first rest).node c (suc i)))
+              ≤ (at i).cycles + owed image costs (at i) + ((F.family c).own).node k + ((F.family c).own).edge k
+              ((run_of F image costs first rest).node c (suc i)))
               (sym from_is)
               (subst
               (λ (k : ℕ).
@@ -270,7 +278,8 @@ module _
         let most = (join.placed).last_within in
         let here = followed F image costs list x root first rest last (join.placed) i (omega arith) in
         let holds = subst
-        (λ (l : List Frame). Holds image list (facts_of F x) x (window F image costs list x root first rest last (join.placed)) (due_at image first rest i) l (at i))
+        (λ (l : List Frame). Holds image list (facts_of F x) x (window F image costs list x root first rest last (join.placed))
+        (due_at image first rest i) l (at i))
         are
         here.holds in
         let step = here.steps (omega arith) (λ j less. (join.placed).before j (omega arith)) f (g ∷ below) are in

@@ -55,6 +55,7 @@ module _ (F : Contexts) (image costs : List ℕ) (first : Machine) (rest : List 
         → (F.family c).leads (F.number c (waiting_place f (pushed target address (machine_at image first rest (suc i)))))
         ≡ Some (F.follows c (waiting_place f (pushed target address (machine_at image first rest (suc i)))))
 
+  -- where a call is due, it is made from the frame on top, and pushes onto it
   abbrev pub ArePushes : ℕ → Transfer → List Frame → Type 0
   ArePushes i Stays frames = Unit {0}
   ArePushes i (Calls target address) [] = Unit {0}
@@ -75,10 +76,16 @@ module _ (F : Contexts) (image costs : List ℕ) (first : Machine) (rest : List 
 
   -- and behind a step they are the frames there
   pub linked_after : (i : ℕ) (due : Transfer) (these : List Activation) (frames : List Frame) → AreLinked i these frames → ArePushes i due frames
-      → AreLinked (suc i) (stack_after F.family (run_of F image costs first rest) (move_of due) i these) (frames_after due (machine_at image first rest (suc i)) frames)
+      → AreLinked (suc i) (stack_after F.family (run_of F image costs first rest) (move_of due) i these)
+      (frames_after due (machine_at image first rest (suc i)) frames)
   linked_after i Stays [] [] linked push = tt
-  linked_after i Stays (a ∷ callers) (f ∷ below) linked push =
-      (record { standing = (linked.0).standing; start = (linked.0).start }, end_behind a.first a.later (suc i), linked.2, below_later i f callers below linked.3)
+  linked_after i Stays (a ∷ callers) (f ∷ below) linked push = (
+    record { standing = (linked.0).standing; start = (linked.0).start },
+    end_behind a.first a.later
+        (suc i),
+    linked.2,
+    below_later i f callers below linked.3,
+  )
   linked_after i (Calls target address) [] [] linked push = tt
   linked_after i (Calls target address) (a ∷ callers) (f ∷ below) linked push = (
     record {

@@ -65,7 +65,8 @@ module _ (image costs : List ℕ) (list : List BoundAssertion) (F : Contexts) (x
 
   -- a machine whose frame is in a context has no stub's frame on its stack
   pub clear_of : (invalid : ℕ) (due : Transfer) (f : Frame) (below : List Frame) (m : Machine) (c : ℕ)
-      → Holds image list (facts_of F x) x invalid due (f ∷ below) m → standing_of F (f ∷ below) ≡ In c → IsClear image list (facts_of F x) x invalid due f below m
+      → Holds image list (facts_of F x) x invalid due (f ∷ below) m → standing_of F (f ∷ below) ≡ In c
+      → IsClear image list (facts_of F x) x invalid due f below m
   clear_of invalid due f below m c (inl clear) is = clear
   clear_of invalid due f below m c (inr b) is =
       absurd
@@ -87,6 +88,7 @@ module _
     abbrev pub window : ℕ
     window = (runs_followed image costs list (facts_of F x) x root first rest join.follows).0
 
+    -- each place of the run is followed
     pub followed : (i : ℕ) → i ≤ last → IsFollowedAt image list (facts_of F x) x window first rest i
     followed i within =
         let most = join.last_within in
@@ -95,6 +97,7 @@ module _
     abbrev pub run_mask : ℕ
     run_mask = (runs_running image costs root first rest (join.follows).bytes (join.follows).begins (join.follows).runs).0
 
+    -- what holds of each machine of the run
     pub running : (i : ℕ) → IsRunningAt image run_mask first rest i
     running i = (runs_running image costs root first rest (join.follows).bytes (join.follows).begins (join.follows).runs).2 i
 
@@ -106,10 +109,12 @@ module _
         → place_of (Calls target address) f (machine_at image first rest i) ≡ waiting_place f (pushed target address (next i))
     waits_there i target address f within due =
         let here = (running i).running in
-        let is = subst (λ (d : Transfer). IsRunning image run_mask (record { machine = machine_at image first rest i; due = d; frames = frames_at image first rest i })) due here in
+        let is = subst (λ (d : Transfer). IsRunning image run_mask
+        (record { machine = machine_at image first rest i; due = d; frames = frames_at image first rest i })) due here in
         let steps = ((at_places image costs first rest (join.follows).runs).steps) i within in
         let link = keep_links image costs target address (machine_at image first rest i) (next i) is.machine is.due steps in
-        let same : depth_from f.start.cwp (machine_at image first rest i).cwp ≡ depth_from f.start.cwp (next i).cwp = ap (λ (w : ℕ). depth_from f.start.cwp w) (sym link.window) in
+        let same : depth_from f.start.cwp (machine_at image first rest i).cwp ≡ depth_from f.start.cwp (next i).cwp =
+        ap (λ (w : ℕ). depth_from f.start.cwp w) (sym link.window) in
         λ j. record { sub = f.sub; pc = (is.due).pc j; next = Into target; depth = same j }
 
     -- the node at a place
@@ -126,7 +131,8 @@ module _
     follows_step i c f below due within frames is context =
         let most = join.last_within in
         let here = followed i (omega arith) in
-        let holds = subst (λ (l : List Frame). Holds image list (facts_of F x) x window (due_at image first rest i) l (machine_at image first rest i)) frames here.holds in
+        let holds = subst (λ (l : List Frame). Holds image list (facts_of F x) x window (due_at image first rest i) l
+        (machine_at image first rest i)) frames here.holds in
         let clear = clear_of image costs list F x (join.filled) window (due_at image first rest i) f below (machine_at image first rest i) c holds context in
         let step = here.steps (omega arith) (λ j less. join.before j (omega arith)) f below frames in
         subst (λ (d : Transfer). IsFollowed image (facts_of F x) x d (due_at image first rest (suc i)) f below (machine_at image first rest i) (next i)) is
@@ -156,7 +162,8 @@ module _
           record {
             node = λ c. node_is i c f below (Calls target address) are is ∙ ap (λ (p : Place). F.number c p) (waits_there i target address f (omega arith) is);
             leads = λ c context.
-                ((join.filled).leads) c (waiting_place f (pushed target address (next i))) target (called_there i c target address f below within are is context);
+                ((join.filled).leads) c (waiting_place f (pushed target address (next i))) target
+                (called_there i c target address f below within are is context);
           },
           is,
           are,
@@ -167,7 +174,8 @@ module _
     these_at i = stack_at F.family (run_of F image costs first rest) (root_of F first) i
 
     -- the activations at each place are the frames there
-    pub linked : (i : ℕ) → i ≤ last → AreLinked F image costs first rest i (stack_at F.family (run_of F image costs first rest) (root_of F first) i) (frames_at image first rest i)
+    pub linked : (i : ℕ) → i ≤ last → AreLinked F image costs first rest i (stack_at F.family (run_of F image costs first rest) (root_of F first) i)
+        (frames_at image first rest i)
     linked zero within = (record { standing = refl; start = refl }, refl, tt, tt)
     linked (suc i) within =
         let most = join.last_within in

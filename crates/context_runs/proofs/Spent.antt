@@ -1,5 +1,6 @@
 -- Frames of a run walk the graphs of their contexts and spend at most their bounds.
-use Rattle.std.proofs.Common.{◌≡◌, ℕ, zero, suc, ◌+◌, ◌<◌, ◌≤◌, inl, inr, Bool, true, false, List, [], ◌∷◌, ◌++◌, Option, Some, refl, sym, ap, subst, ◌∙◌, arith}
+use Rattle.std.proofs.Common.{◌≡◌, ℕ, zero, suc, ◌+◌, ◌<◌, ◌≤◌, inl, inr, Bool, true, false, List, [], ◌∷◌, ◌++◌, Option, Some, refl, sym, ap, subst}
+use Rattle.std.proofs.Common.{◌∙◌, arith}
 use Rattle.std.specs.Prelude.{All, is_some}
 use Rattle.abs_state.specs.declared.key.Key.TheVariants as key
 use Rattle.assert_bind.specs.Binding.{stub}
@@ -57,8 +58,10 @@ module _
       by (Stub other) here e = cc
       by (In c) here e =
           let there : is_some (F.facts c (key.Call (waiting_place g f) f.sub)) ≡ true =
-          subst (λ (facts : Facts). is_some (facts (key.Call (waiting_place g f) f.sub)) ≡ true) (facts_are image costs list F x (join.placed).filled (g ∷ below) c here) (waiting.0).called in
-          let asserted : stub list f.sub ≡ Some time = (((join.placed).filled).time) c (waiting_place g f) f.sub time (record { there = there; into = refl }) e in
+          subst (λ (facts : Facts). is_some (facts (key.Call (waiting_place g f) f.sub)) ≡ true)
+          (facts_are image costs list F x (join.placed).filled (g ∷ below) c here) (waiting.0).called in
+          let asserted : stub list f.sub ≡ Some time =
+          (((join.placed).filled).time) c (waiting_place g f) f.sub time (record { there = there; into = refl }) e in
           both (is_stub list f.sub) (ap (λ (o : Option ℕ). is_some o) asserted) plain.0
 
     standing_not : (s : Standing) → ((time : ℕ) → s ≡ Stub time → ⊥) → is_timed s ≡ false
@@ -97,12 +100,14 @@ module _
         → HaveSpent F (machine_at image first rest i).cycles frames
     spend sound i within [] are plain = tt
     spend sound i within (f ∷ below) are plain =
-        let links = subst (λ (l : List Frame). AreLinked F image costs first rest i (these_at i) l) are (linked F image costs list x root first rest last (join.placed) i within) in
+        let links = subst (λ (l : List Frame). AreLinked F image costs first rest i (these_at i) l) are
+        (linked F image costs list x root first rest last (join.placed) i within) in
         let frames = frames_are i (these_at i) (f ∷ below) links in
         let here = followed F image costs list x root first rest last (join.placed) i within in
         let holds = subst
         (λ (l : List Frame).
-        Holds image list (facts_of F x) x (window F image costs list x root first rest last (join.placed)) (due_at image first rest i) l (machine_at image first rest i))
+        Holds image list (facts_of F x) x (window F image costs list x root first rest last (join.placed)) (due_at image first rest i) l
+        (machine_at image first rest i))
         are
         here.holds in
         let free : All (λ (a : Activation). is_timed a.standing ≡ false) (these_at i) = elim holds [
@@ -110,21 +115,28 @@ module _
           | inr b ↦ absurd (among b.inner b.lowest (b.below ∷ b.rest) b.stub (subst (λ (l : List Frame). ArePlain list l) b.are plain))
         ] in
         have (machine_at image first rest i).cycles (these_at i) (f ∷ below) frames
-        (frames_in_bounds F.family (run_of F image costs first rest) (root_of F first) last sound (are_followed F image costs list x root first rest last join) i within free)
+        (frames_in_bounds F.family (run_of F image costs first rest) (root_of F first) last sound
+        (are_followed F image costs list x root first rest last join) i within free)
 
     popped : (sound : IsSound F.family) (i : ℕ) → i < last → PoppedSpent F image first rest i
     popped sound i within f below c most due are stands bound =
         by (these_at i) refl
-        (subst (λ (l : List Frame). AreLinked F image costs first rest i (these_at i) l) are (linked F image costs list x root first rest last (join.placed) i (omega arith)))
+        (subst (λ (l : List Frame). AreLinked F image costs first rest i (these_at i) l) are
+        (linked F image costs list x root first rest last (join.placed) i (omega arith)))
       where
         by : (these : List Activation) → these_at i ≡ these → AreLinked F image costs first rest i these (f ∷ below)
             → (machine_at image first rest (suc i)).cycles ≤ f.start.cycles + most
         by [] is links = elim links [ ]
         by (a ∷ callers) is links =
-            let spends = popped_spend F.family (run_of F image costs first rest) (root_of F first) last sound (are_followed F image costs list x root first rest last join) i a callers within (ap move_of due) is c most ((links.0).standing ∙ stands) bound in
+            let spends = popped_spend F.family (run_of F image costs first rest) (root_of F first) last sound
+            (are_followed F image costs list x root first rest last join) i a callers within (ap move_of due) is c most
+            ((links.0).standing ∙ stands) bound in
             let begun : (machine_at image first rest a.first).cycles ≡ f.start.cycles = ap (λ (m : Machine). m.cycles) (links.0).start in
             omega (arith, spends, begun)
 
+-- where the graphs of contexts are filled in from their facts, and what counts in them counts, each frame of a run has at
+-- each place walked the graph of its context keeping the head bounds, and each frame with a bounded context has spent at
+-- most its bound, at each place without a subprogram that isn't looked into and at its pop
 pub runs_keep_contexts : RunsKeepContexts
 runs_keep_contexts F image costs list x root first rest last sound join i within = (
   record {
@@ -132,7 +144,8 @@ runs_keep_contexts F image costs list x root first rest last sound join i within
         frames_are F image costs list x root first rest last join i (these_at F image costs list x root first rest last join i) (frames_at image first rest i)
         (linked F image costs list x root first rest last (join.placed) i within);
     walk =
-        frames_on_walks F.family (run_of F image costs first rest) (root_of F first) last sound (are_followed F image costs list x root first rest last join) i within;
+        frames_on_walks F.family (run_of F image costs first rest) (root_of F first) last sound
+        (are_followed F image costs list x root first rest last join) i within;
     spend = λ plain. spend F image costs list x root first rest last join sound i within (frames_at image first rest i) refl plain;
   },
   λ less. popped F image costs list x root first rest last join sound i less,

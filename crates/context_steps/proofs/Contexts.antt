@@ -47,7 +47,9 @@ use Rattle.transfer_values.specs.Resolve.{widest}
 use Rattle.value_lattice.specs.Thresholds.{IsThresholds}
 use Rattle.context_steps.specs.Followed.{AreContexts, ContextsCoverSteps, ContextsFollowRuns, RunsArePlaced, RunsSpendBounds}
 
-module _ (t image : List ℕ) (list : List BoundAssertion) (eight : Bool) (x : Facts) (F : Contexts) (bound : IsBound image list) (thresholds : IsThresholds t) (closed : IsClosed (rules_of t (family t image list) (program_of image list eight (widest image list))) x) (contexts : AreContexts image list eight t x F) where
+module _ (t image : List ℕ) (list : List BoundAssertion) (eight : Bool) (x : Facts) (F : Contexts) (bound : IsBound image list)
+    (thresholds : IsThresholds t) (closed : IsClosed (rules_of t (family t image list) (program_of image list eight (widest image list))) x)
+    (contexts : AreContexts image list eight t x F) where
   -- how a frame stands is in one of the contexts, if in any
   abbrev pub Exists : Standing → Type 0
   Exists Free = Unit {0}
@@ -66,6 +68,7 @@ module _ (t image : List ℕ) (list : List BoundAssertion) (eight : Bool) (x : F
   next_exists (In c) p has (Stub time) is = tt
   next_exists (In c) p has (In d) is = contexts.follows c d p has is
 
+  -- the contexts of a stack exist
   pub stack_exists : (stack : List Frame) → Exists (standing_of F stack)
   stack_exists [] = tt
   stack_exists (root ∷ []) = root_exists root.sub (F.roots root.sub) refl
@@ -96,39 +99,49 @@ module _ (t image : List ℕ) (list : List BoundAssertion) (eight : Bool) (x : F
   answers Free has = closed_answers t (family t image list) (program_of image list eight (widest image list)) x closed
   answers (Stub time) has = closed_answers t (family t image list) (program_of image list eight (widest image list)) x closed
   answers (In c) has =
-      contexts_answer t (contexts.thresholds c) (family t image list) (family (contexts.thresholds c) image list) (program_of image list eight (widest image list))
+      contexts_answer t (contexts.thresholds c) (family t image list) (family (contexts.thresholds c) image list)
+      (program_of image list eight (widest image list))
       x (F.sub c) (contexts.arguments c) (F.facts c) (lawful c has) closed (contexts.facts c has)
 
   enters : (s : Standing) → Exists s → (frame callee : Frame) (step : Step) (before after : State)
-      → IsTaken (family (widened s) image list) (program_of image list eight (widest image list)) (facts_by F x s) (waiting_place frame callee) step Onward before after
+      → IsTaken (family (widened s) image list) (program_of image list eight (widest image list)) (facts_by F x s)
+      (waiting_place frame callee) step Onward before after
       → is_stub list callee.sub ≡ false
       → HasState (facts_by F x (follows_from F s (waiting_place frame callee))) (entry_of callee.sub) (entered_with (arguments step.depth after))
   enters Free has frame callee step before after is followed =
-      closed_calls.enters t (family t image list) (program_of image list eight (widest image list)) x (waiting_place frame callee) callee.sub step before after closed is refl followed
+      closed_calls.enters t (family t image list) (program_of image list eight (widest image list)) x
+      (waiting_place frame callee) callee.sub step before after closed is refl followed
   enters (Stub time) has frame callee step before after is followed =
-      closed_calls.enters t (family t image list) (program_of image list eight (widest image list)) x (waiting_place frame callee) callee.sub step before after closed is refl followed
+      closed_calls.enters t (family t image list) (program_of image list eight (widest image list)) x
+      (waiting_place frame callee) callee.sub step before after closed is refl followed
   enters (In c) has frame callee step before after is followed = by (F.follows c (waiting_place frame callee)) refl where
     whole : HasState x (entry_of callee.sub) (entered_with (arguments step.depth after))
     whole =
-        contexts_enter.whole t (contexts.thresholds c) (family t image list) (family (contexts.thresholds c) image list) (program_of image list eight (widest image list))
-        x (F.sub c) callee.sub (contexts.arguments c) (F.facts c) (waiting_place frame callee) step before after (lawful c has) closed (contexts.facts c has) is refl followed
+        contexts_enter.whole t (contexts.thresholds c) (family t image list) (family (contexts.thresholds c) image list)
+        (program_of image list eight (widest image list))
+        x (F.sub c) callee.sub (contexts.arguments c) (F.facts c) (waiting_place frame callee) step before after (lawful c has) closed
+        (contexts.facts c has) is refl followed
 
-    by : (r : Standing) → F.follows c (waiting_place frame callee) ≡ r → HasState (facts_by F x r) (entry_of callee.sub) (entered_with (arguments step.depth after))
+    by : (r : Standing) → F.follows c (waiting_place frame callee) ≡ r
+        → HasState (facts_by F x r) (entry_of callee.sub) (entered_with (arguments step.depth after))
     by Free leads = whole
     by (Stub time) leads = whole
     by (In d) leads =
         let there = contexts.follows c d (waiting_place frame callee) has leads in
         let same = contexts.callee c d callee.sub (waiting_place frame callee) has refl leads in
-        contexts_enter.context t (contexts.thresholds c) (contexts.thresholds d) (family t image list) (family (contexts.thresholds c) image list) (family (contexts.thresholds d) image list)
+        contexts_enter.context t (contexts.thresholds c) (contexts.thresholds d) (family t image list) (family (contexts.thresholds c) image list)
+        (family (contexts.thresholds d) image list)
         (program_of image list eight (widest image list)) x (F.sub c) callee.sub (contexts.arguments c) (contexts.arguments d) (F.facts c) (F.facts d)
         (waiting_place frame callee) step before after (lawful c has) closed (contexts.facts c has)
-        (subst (λ (q : ℕ). IsContext (contexts.thresholds d) (family (contexts.thresholds d) image list) (program_of image list eight (widest image list)) x q (contexts.arguments d) (F.facts d)) same
+        (subst (λ (q : ℕ). IsContext (contexts.thresholds d) (family (contexts.thresholds d) image list)
+        (program_of image list eight (widest image list)) x q (contexts.arguments d) (F.facts d)) same
         (contexts.facts d there))
         (λ given found. contexts.handed c d callee.sub (waiting_place frame callee) given has leads found) is refl
 
   stubs_say : (target : ℕ) → is_stub list target ≡ true → is_at_most effects_of_stub (summary_in x target) ≡ true
   stubs_say target is =
-      let says = closed_starts.stubs t (family t image list) (program_of image list eight (widest image list)) x target closed (((stubs_those list bound.sound).each target).1 is) in
+      let says = closed_starts.stubs t (family t image list) (program_of image list eight (widest image list)) x target closed
+      (((stubs_those list bound.sound).each target).1 is) in
       subst (λ (e : Effects). is_at_most effects_of_stub e ≡ true) (sym (summary_is x target says.all says.found)) says.above
 
   pub cover_steps : (costs : List ℕ) → StepFacts image costs list (facts_of F x) x
@@ -176,9 +189,12 @@ module _ (t image : List ℕ) (list : List BoundAssertion) (eight : Bool) (x : F
         leads = tt;
       }
 
+-- each step of a run shows what the law of the stack asks of the facts of the contexts in which frames stand, and of a
+-- closed state where a frame has no context
 pub contexts_cover_steps : ContextsCoverSteps
 contexts_cover_steps t image costs list eight x F bound thresholds closed contexts = cover_steps t image list eight x F bound thresholds closed contexts costs
 
+-- a run from a root that meets the assertions can be followed over the facts of the contexts of its frames
 pub contexts_follow_runs : ContextsFollowRuns
 contexts_follow_runs t image costs list eight x F heads root first rest bound thresholds closed contexts run = record {
   bytes = bound.bytes;
@@ -191,6 +207,8 @@ contexts_follow_runs t image costs list eight x F heads root first rest bound th
   facts = contexts_cover_steps t image costs list eight x F bound thresholds closed contexts;
 }
 
+-- where the graphs of contexts are filled in from their facts, such a run stands at their program points, up to its first
+-- gap
 pub runs_are_placed : RunsArePlaced
 runs_are_placed t image costs list eight x F heads root first rest last bound thresholds closed contexts run filled within before = record {
   follows = contexts_follow_runs t image costs list eight x F heads root first rest bound thresholds closed contexts run;
@@ -199,6 +217,8 @@ runs_are_placed t image costs list eight x F heads root first rest last bound th
   before = before;
 }
 
+-- up to its first gap each frame of such a run walks the graph of its context keeping the bounds of its heads, and each
+-- frame with a bounded context spends at most its bound, at each place and at its pop
 pub runs_spend_bounds : RunsSpendBounds
 runs_spend_bounds t image costs list eight x F heads root first rest last bound thresholds closed contexts run sound filled within before counted place low =
     runs_keep_contexts F image costs list x root first rest last sound

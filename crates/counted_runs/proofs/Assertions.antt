@@ -41,7 +41,8 @@ append_twice [] second third = refl
 append_twice (a ∷ first) second third = ap (λ l. a ∷ l) (append_twice first second third)
 
 -- an asserted count is met as one of the loop at its address
-looped : (says : BoundBody) (address count : ℕ) → is_same (subject_of says) (of.Loop address) ≡ true → count_in says ≡ Some count → says ≡ body.Loop address count
+looped : (says : BoundBody) (address count : ℕ) → is_same (subject_of says) (of.Loop address) ≡ true → count_in says ≡ Some count
+    → says ≡ body.Loop address count
 looped (body.Root a) address count same is = absurd (cc)
 looped (body.Never a) address count same is = absurd (cc)
 looped (body.At a reg lo hi) address count same is = absurd (cc)
@@ -128,7 +129,11 @@ module _
         others = refl;
         nodes = λ c.
             ap (λ n. n ∷ [])
-            (node c (record { frame = record { sub = target; caller = address; start = machine_at image first rest (suc i) }; first = suc i; later = [] }) (b ∷ below) refl);
+            (node c (record {
+              frame = record { sub = target; caller = address; start = machine_at image first rest (suc i) };
+              first = suc i;
+              later = [];
+            }) (b ∷ below) refl);
       },
       same,
     )
@@ -176,7 +181,8 @@ module _
           ∙ sym there in
           let has_there : (loops_by F (standing_of F (frames_of (b ∷ below)))).has h ≡ true =
           subst (λ (s : Standing). (loops_by F s).has h ≡ true) (sym context) has in
-          let address_there : address_by address (standing_of F (frames_of (b ∷ below))) h ≡ address c h = ap (λ (s : Standing). address_by address s h) context in
+          let address_there : address_by address (standing_of F (frames_of (b ∷ below))) h ≡ address c h =
+          ap (λ (s : Standing). address_by address s h) context in
           let inside_there : AreInside ((loops_by F (standing_of F (frames_of (b ∷ below)))).body h) (map node stretch) =
           subst (λ (s : Standing). AreInside ((loops_by F s).body h) (map node stretch)) (sym context) inside in
           let most = kept h (map node before) (map node stretch) (map node after) has_there address_there cut_there inside_there in
@@ -203,13 +209,15 @@ module _
           → All (KeepsAsserted F.family (run_of F image costs first rest)) (stack_at F.family (run_of F image costs first rest) (root_of F first) i)
       asserted_kept i within =
           let most = placed.last_within in
-          let frames = frames_are i (stack_at F.family (run_of F image costs first rest) (root_of F first) i) (frames_at image first rest i) (linked F image costs list x root first rest last placed i within) in
+          let frames = frames_are i (stack_at F.family (run_of F image costs first rest) (root_of F first) i) (frames_at image first rest i)
+          (linked F image costs list x root first rest last placed i within) in
           all_keep i (omega arith) [] (stack_at F.family (run_of F image costs first rest) (root_of F first) i) (activations_at image first rest i) refl
           (these_are i within)
           (subst (λ (l : List Frame). AreFrames F image first rest (stack_at F.family (run_of F image costs first rest) (root_of F first) i) l)
           (sym (are_frames image first rest i (omega arith)).frames)
           frames)
 
+-- where a run meets the assertions, each frame in a context keeps the bound of each head that is asserted there
 pub asserted_counts : AssertedCountsAreKept
 asserted_counts F image costs list x root first rest last address placed asserted meets i within =
     asserted_kept F image costs list x root first rest last placed address asserted meets i within

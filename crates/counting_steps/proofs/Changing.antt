@@ -1,5 +1,6 @@
 -- What a step changes in a cell.
-use Rattle.std.proofs.Common.{◌≡◌, ◌≢◌, ℕ, ◌+◌, ◌-◌, ◌*◌, ◌%◌, ◌^◌, ◌<◌, ◌≤◌, ◌⊎◌, inl, inr, ◌&&◌, ◌||◌, Bool, true, false, List, [], ◌∷◌, Option, Some, None, Contains, refl, sym, ap, subst, ◌∙◌, arith, if◌then◌else◌}
+use Rattle.std.proofs.Common.{◌≡◌, ◌≢◌, ℕ, ◌+◌, ◌-◌, ◌*◌, ◌%◌, ◌^◌, ◌<◌, ◌≤◌, ◌⊎◌, inl, inr, ◌&&◌, ◌||◌, Bool, true, false, List, [], ◌∷◌, Option}
+use Rattle.std.proofs.Common.{Some, None, Contains, refl, sym, ap, subst, ◌∙◌, arith, if◌then◌else◌}
 use Rattle.std.specs.Prelude.{◌==◌, not, nat_lt}
 use Rattle.std.proofs.lemmas.Bool.{and_from, both_ways, cases_eq, eq-eqb, lt-ltb, ne_eqb, not_from_false, or_parts, or_right}
 use Rattle.abs_state.specs.State.{State, cell_at}
@@ -53,6 +54,7 @@ left_by (Some w) mask value c contents low free = elim (cases_eq c w.cell) [ inl
             (has-with mask w.cell c ∙ or_right (has_cell mask c) (c == w.cell) (eq-eqb c w.cell same))))
       ]
 
+-- a step that doesn't write a cell leaves it
 pub leaves_cell : (image : List ℕ) (step : Step) (way : Way) (cwp c : ℕ) (m next : Machine) → Does image step way cwp m next → c < 48
     → has_cell (mask_of step) c ≡ false → content_of next cwp c ≡ content_of m cwp c
 leaves_cell image step way cwp c m next does low free =
@@ -62,7 +64,8 @@ leaves_cell image step way cwp c m next does low free =
     f.contents c low ∙ last.0 ∙ first.0
 
 -- an operand of one word
-one_word : (s : State) (ra : ℕ) (contents : ℕ → ℕ) (right : Right) (word y : ℕ) → ((r : ℕ) → r < 48 → Has (cell_at s r) (contents r) ra) → IsOneWord s right word
+one_word : (s : State) (ra : ℕ) (contents : ℕ → ℕ) (right : Right) (word y : ℕ) → ((r : ℕ) → r < 48 → Has (cell_at s r) (contents r) ra)
+    → IsOneWord s right word
     → IsOperandIn contents right y → y ≡ word
 one_word s ra contents (Word n) word y has one is = is ∙ sym one
 one_word s ra contents (Cell r) word y has one is =
@@ -86,7 +89,9 @@ amounts op.Addx carry x y up down low right is least most = absurd is
 amounts op.Subx carry x y up down low right is least most = absurd is
 amounts op.Mul carry x y up down low right is least most = absurd is
 
-pub adds_cell : (image : List ℕ) (p : Place) (step : Step) (way : Way) (before : State) (cwp ra c up down : ℕ) (m next : Machine) → Does image step way cwp m next → c < 48
+-- a step that adds to a cell changes it by as much
+pub adds_cell : (image : List ℕ) (p : Place) (step : Step) (way : Way) (before : State) (cwp ra c up down : ℕ) (m next : Machine)
+    → Does image step way cwp m next → c < 48
     → ra < 2 ^ 32 → ((r : ℕ) → r < 48 → content_of m cwp r < 2 ^ 32) → ((r : ℕ) → r < 48 → Has (cell_at before r) (content_of m cwp r) ra)
     → Adds p step before c up down → place_of (content_of next cwp c) + down ≡ place_of (content_of m cwp c) + up
 adds_cell image p step way before cwp ra c up down m next does low word words has adds =

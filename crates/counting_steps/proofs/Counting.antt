@@ -1,5 +1,6 @@
 -- What counts in the frames of a run counts.
-use Rattle.std.proofs.Common.{◌≡◌, ◌≢◌, ℕ, zero, suc, ◌+◌, ◌%◌, ◌^◌, ◌<◌, ◌≤◌, ◌⊎◌, inl, inr, Bool, true, false, List, [], ◌∷◌, length, Option, Some, None, Contains, refl, sym, ap, subst, ◌∙◌, arith}
+use Rattle.std.proofs.Common.{◌≡◌, ◌≢◌, ℕ, zero, suc, ◌+◌, ◌%◌, ◌^◌, ◌<◌, ◌≤◌, ◌⊎◌, inl, inr, Bool, true, false, List, [], ◌∷◌, length, Option, Some}
+use Rattle.std.proofs.Common.{None, Contains, refl, sym, ap, subst, ◌∙◌, arith}
 use Rattle.std.specs.Prelude.{nat_lt}
 use Rattle.std.specs.Int.{cast_signed, w32}
 use Rattle.std.proofs.lemmas.Bool.{cases_Bool, lt-ltb}
@@ -84,7 +85,10 @@ returns_by Stays e = cc
 returns_by (Calls target address) e = cc
 returns_by Returns e = refl
 
-module _ (t image costs : List ℕ) (list : List BoundAssertion) (eight : Bool) (x : Facts) (F : Contexts) (bound : IsBound image list) (thresholds : IsThresholds t) (closed : IsClosed (rules_of t (family t image list) (program_of image list eight (widest image list))) x) (contexts : AreContexts image list eight t x F) (changes : AreChanges image list eight t x F contexts) (root : ℕ) (first : Machine) (rest : List Machine) (last : ℕ) (placed : IsPlaced F image costs list x root first rest last) where
+module _ (t image costs : List ℕ) (list : List BoundAssertion) (eight : Bool) (x : Facts) (F : Contexts) (bound : IsBound image list)
+    (thresholds : IsThresholds t) (closed : IsClosed (rules_of t (family t image list) (program_of image list eight (widest image list))) x)
+    (contexts : AreContexts image list eight t x F) (changes : AreChanges image list eight t x F contexts) (root : ℕ) (first : Machine)
+    (rest : List Machine) (last : ℕ) (placed : IsPlaced F image costs list x root first rest last) where
   abbrev at : ℕ → Machine
   at i = machine_at image first rest i
 
@@ -103,13 +107,15 @@ module _ (t image costs : List ℕ) (list : List BoundAssertion) (eight : Bool) 
   answers : (c : ℕ) → contexts.has c ≡ true
       → Answers (contexts.thresholds c) (family (contexts.thresholds c) image list) (program_of image list eight (widest image list)) (F.facts c) x
   answers c has =
-      contexts_answer t (contexts.thresholds c) (family t image list) (family (contexts.thresholds c) image list) (program_of image list eight (widest image list))
+      contexts_answer t (contexts.thresholds c) (family t image list) (family (contexts.thresholds c) image list)
+      (program_of image list eight (widest image list))
       x (F.sub c) (contexts.arguments c) (F.facts c) (lawful c has) closed (contexts.facts c has)
 
   -- a frame in a context is in one that there is
   in_one : (stack : List Frame) (c : ℕ) → standing_of F stack ≡ In c → contexts.has c ≡ true
   in_one stack c is =
-      subst (λ (s : Standing). Exists t image list eight x F bound thresholds closed contexts s) is (stack_exists t image list eight x F bound thresholds closed contexts stack)
+      subst (λ (s : Standing). Exists t image list eight x F bound thresholds closed contexts s) is
+      (stack_exists t image list eight x F bound thresholds closed contexts stack)
 
   -- the activation on top of the stack at a place is the frame on top there
   record IsOn (i : ℕ) (a : Activation) (callers : List Activation) : Type 0 where
@@ -123,7 +129,8 @@ module _ (t image costs : List ℕ) (list : List BoundAssertion) (eight : Bool) 
   on : (i : ℕ) (a : Activation) (callers : List Activation) → i ≤ last → these_at i ≡ a ∷ callers → IsOn i a callers
   on i a callers within are =
       by (frames_at image first rest i) refl
-      (subst (λ (l : List Activation). AreLinked F image costs first rest i l (frames_at image first rest i)) are (linked F image costs list x root first rest last placed i within))
+      (subst (λ (l : List Activation). AreLinked F image costs first rest i l (frames_at image first rest i)) are
+      (linked F image costs list x root first rest last placed i within))
     where
       by : (frames : List Frame) → frames_at image first rest i ≡ frames → AreLinked F image costs first rest i (a ∷ callers) frames → IsOn i a callers
       by [] is l = elim l [ ]
@@ -134,11 +141,13 @@ module _ (t image costs : List ℕ) (list : List BoundAssertion) (eight : Bool) 
       → IsClear image list (facts_of F x) x (window F image costs list x root first rest last placed) (due_at image first rest i) f below (at i)
   clear i c f below within are context =
       clear_of image costs list F x placed.filled (window F image costs list x root first rest last placed) (due_at image first rest i) f below (at i) c
-      (subst (λ (l : List Frame). Holds image list (facts_of F x) x (window F image costs list x root first rest last placed) (due_at image first rest i) l (at i)) are
+      (subst (λ (l : List Frame). Holds image list (facts_of F x) x (window F image costs list x root first rest last placed)
+      (due_at image first rest i) l (at i)) are
       (followed F image costs list x root first rest last placed i within).holds) context
 
   takes : (i c : ℕ) (f : Frame) (below : List Frame) → i < last → frames_at image first rest i ≡ f ∷ below → standing_of F (f ∷ below) ≡ In c
-      → Takes image costs list (facts_of F x) x (window F image costs list x root first rest last placed) (due_at image first rest i) f below (at i) (at (suc i))
+      → Takes image costs list (facts_of F x) x (window F image costs list x root first rest last placed) (due_at image first rest i) f below (at i)
+      (at (suc i))
   takes i c f below within are context =
       let most = placed.last_within in
       let r = (followed F image costs list x root first rest last placed i (omega arith)).running in
@@ -154,14 +163,17 @@ module _ (t image costs : List ℕ) (list : List BoundAssertion) (eight : Bool) 
       }
 
   -- the step from a place, as the rules take it in the context's facts
-  taken : (i c : ℕ) (f : Frame) (below : List Frame) → i < last → frames_at image first rest i ≡ f ∷ below → standing_of F (f ∷ below) ≡ In c → contexts.has c ≡ true
+  taken : (i c : ℕ) (f : Frame) (below : List Frame) → i < last → frames_at image first rest i ≡ f ∷ below → standing_of F (f ∷ below) ≡ In c
+      → contexts.has c ≡ true
       → IsDone (contexts.thresholds c) image list eight (F.facts c) (place_of (due_at image first rest i) f (at i)) f (at i) (at (suc i))
   taken i c f below within are context has =
       let same = facts_are image costs list F x placed.filled (f ∷ below) c context in
-      subst (λ (facts : Facts). IsDone (contexts.thresholds c) image list eight facts (place_of (due_at image first rest i) f (at i)) f (at i) (at (suc i))) same
+      subst (λ (facts : Facts). IsDone (contexts.thresholds c) image list eight facts (place_of (due_at image first rest i) f (at i)) f (at i)
+      (at (suc i))) same
       (done (contexts.thresholds c) image costs list eight (facts_of F x) x bound (contexts.are c has) (window F image costs list x root first rest last placed)
       (due_at image first rest i) f below (at i) (at (suc i))
-      (subst (λ (facts : Facts). Answers (contexts.thresholds c) (family (contexts.thresholds c) image list) (program_of image list eight (widest image list)) facts x) (sym same) (answers c has))
+      (subst (λ (facts : Facts). Answers (contexts.thresholds c) (family (contexts.thresholds c) image list)
+      (program_of image list eight (widest image list)) facts x) (sym same) (answers c has))
       (takes i c f below within are context))
 
   -- what a cell of the frame on top holds at a place
@@ -209,7 +221,8 @@ module _ (t image costs : List ℕ) (list : List BoundAssertion) (eight : Bool) 
         word = here.entered.0.word;
         covers = here.stands.covers;
       } in
-      let kept = assertions_kept image list (place_of (due_at image first rest i) o.f (at i)) o.f.start.cwp (at i) (nat_lt i (length rest)) bound.sound stood (placed.follows.meets i (omega arith)) in
+      let kept = assertions_kept image list (place_of (due_at image first rest i) o.f (at i)) o.f.start.cwp (at i)
+      (nat_lt i (length rest)) bound.sound stood (placed.follows.meets i (omega arith)) in
       let left = there (contexts.thresholds c) (narrowed (contexts.thresholds c) list (place_of (due_at image first rest i) o.f (at i)) here.stands.state)
       (place_of (due_at image first rest i) o.f (at i)).depth o.f (at i)
       (narrows_cover (contexts.thresholds c) list (place_of (due_at image first rest i) o.f (at i)) here.stands.state o.f (at i) covered kept.ranges) in
@@ -248,8 +261,12 @@ module _ (t image costs : List ℕ) (list : List BoundAssertion) (eight : Bool) 
       low : counter.cell < 48
       low = changes.low c h counter (in_one (f ∷ below) c context) is_counter
 
-      by : Leaves x (place_of (due_at image first rest i) f (at i)) d.step counter.cell (counter.changes.up (F.number c (place_of (due_at image first rest i) f (at i)))) (counter.changes.down (F.number c (place_of (due_at image first rest i) f (at i))))
-          ⊎ Adds (place_of (due_at image first rest i) f (at i)) d.step d.before counter.cell (counter.changes.up (F.number c (place_of (due_at image first rest i) f (at i)))) (counter.changes.down (F.number c (place_of (due_at image first rest i) f (at i))))
+      by : Leaves x (place_of (due_at image first rest i) f (at i)) d.step counter.cell
+          (counter.changes.up (F.number c (place_of (due_at image first rest i) f (at i))))
+          (counter.changes.down (F.number c (place_of (due_at image first rest i) f (at i))))
+          ⊎ Adds (place_of (due_at image first rest i) f (at i)) d.step d.before counter.cell
+          (counter.changes.up (F.number c (place_of (due_at image first rest i) f (at i))))
+          (counter.changes.down (F.number c (place_of (due_at image first rest i) f (at i))))
           → place_of_word (content_of (at (suc i)) f.start.cwp counter.cell) + counter.changes.down ((run_of F image costs first rest).node c i)
           ≡ place_of_word (content_of (at i) f.start.cwp counter.cell) + counter.changes.up ((run_of F image costs first rest).node c i)
       by (inl leaves) =
@@ -261,7 +278,8 @@ module _ (t image costs : List ℕ) (list : List BoundAssertion) (eight : Bool) 
       by (inr adds) =
           let change =
           adds_cell image (place_of (due_at image first rest i) f (at i)) d.step d.way d.before f.start.cwp f.caller counter.cell
-          (counter.changes.up (F.number c (place_of (due_at image first rest i) f (at i)))) (counter.changes.down (F.number c (place_of (due_at image first rest i) f (at i))))
+          (counter.changes.up (F.number c (place_of (due_at image first rest i) f (at i))))
+          (counter.changes.down (F.number c (place_of (due_at image first rest i) f (at i))))
           (at i) (at (suc i)) d.does low d.covers.word (λ r near. content_word f.start.cwp (at i) r d.covers.machine) d.covers.covers.says.cells adds in
           let up = ap counter.changes.up node in
           let down = ap counter.changes.down node in
@@ -293,7 +311,8 @@ module _ (t image costs : List ℕ) (list : List BoundAssertion) (eight : Bool) 
       step : IsStepFollowed image list (facts_of F x) x (config_at image first rest i) (config_at image first rest (suc i)) g (f ∷ below)
       step =
           let most = placed.last_within in
-          (followed F image costs list x root first rest last placed i (omega arith)).steps (omega arith) (λ j less. placed.before j (omega arith)) g (f ∷ below) are
+          (followed F image costs list x root first rest last placed i (omega arith)).steps (omega arith) (λ j less. placed.before j (omega arith)) g
+          (f ∷ below) are
 
   pub goes_on : (i c : ℕ) (popped caller : Activation) (callers : List Activation) → i < last → (run_of F image costs first rest).move i ≡ ReturnsTo
       → these_at i ≡ popped ∷ caller ∷ callers → caller.standing ≡ In c → Counts F image costs first rest c (last_of caller) (suc i)
@@ -307,7 +326,8 @@ module _ (t image costs : List ℕ) (list : List BoundAssertion) (eight : Bool) 
       by : (g : Frame) (below : List Frame) → frames_at image first rest i ≡ g ∷ below → AreFrames F image first rest (caller ∷ callers) below
           → AreBelow F image costs first rest i g (caller ∷ callers) below
           → (run_of F image costs first rest).content (suc i) counter.cell + counter.changes.down ((run_of F image costs first rest).node c (last_of caller))
-          ≡ (run_of F image costs first rest).content (last_of caller) counter.cell + counter.changes.up ((run_of F image costs first rest).node c (last_of caller))
+          ≡ (run_of F image costs first rest).content (last_of caller) counter.cell + counter.changes.up
+          ((run_of F image costs first rest).node c (last_of caller))
       by g [] are frames belows = elim frames [ ]
       by g (f ∷ below) are frames belows =
           let since = belows.0 in
@@ -330,24 +350,29 @@ module _ (t image costs : List ℕ) (list : List BoundAssertion) (eight : Bool) 
           let kept = kept_by i c g f below within due are here.plain counter.cell low lends in
           let pushed : content_of g.start f.start.cwp counter.cell ≡ content_of (at (suc (last_of caller))) f.start.cwp counter.cell =
           ap (λ (m : Machine). content_of m f.start.cwp counter.cell) (sym since.start) in
-          let same : place_of_word (content_of (at (suc i)) f.start.cwp counter.cell) ≡ place_of_word (content_of (at (suc (last_of caller))) f.start.cwp counter.cell) =
+          let same : place_of_word (content_of (at (suc i)) f.start.cwp counter.cell) ≡
+          place_of_word (content_of (at (suc (last_of caller))) f.start.cwp counter.cell) =
           ap (λ (w : ℕ). place_of_word w) (kept ∙ pushed) in
           let next : frames_at image first rest (suc i) ≡ f ∷ below = frames_next i (g ∷ f ∷ below) Returns within are due in
           let from = content_is (last_of caller) counter.cell f below (omega arith) since.frames in
           let to = content_is (suc i) counter.cell f below (omega arith) next in
           omega (arith, change, same, from, to)
         where
-          call_leaves : (f : Frame) (below : List Frame) (g : Frame) (early : last_of caller < last) (are : frames_at image first rest (last_of caller) ≡ f ∷ below)
+          call_leaves : (f : Frame) (below : List Frame) (g : Frame) (early : last_of caller < last)
+              (are : frames_at image first rest (last_of caller) ≡ f ∷ below)
               (stands : standing_of F (f ∷ below) ≡ In c) → (place_of (due_at image first rest (last_of caller)) f (at (last_of caller))).next ≡ Into g.sub
-              → has_cell (after_call (summary_in x g.sub).written (taken (last_of caller) c f below early are stands (in_one (f ∷ below) c stands)).step.depth) counter.cell ≡ false
+              → has_cell (after_call (summary_in x g.sub).written
+              (taken (last_of caller) c f below early are stands (in_one (f ∷ below) c stands)).step.depth) counter.cell ≡ false
           call_leaves f below g early are stands into = choose
               (changes.changes c h counter (place_of (due_at image first rest (last_of caller)) f (at (last_of caller))) d.step d.way d.before d.after
               (in_one (f ∷ below) c stands) is_head is_counter (subst (λ (n : ℕ). (F.family c).loops.body h n ≡ true) node from_in) d.taken)
             where
-              d : IsDone (contexts.thresholds c) image list eight (F.facts c) (place_of (due_at image first rest (last_of caller)) f (at (last_of caller))) f (at (last_of caller)) (at (suc (last_of caller)))
+              d : IsDone (contexts.thresholds c) image list eight (F.facts c)
+                  (place_of (due_at image first rest (last_of caller)) f (at (last_of caller))) f (at (last_of caller)) (at (suc (last_of caller)))
               d = taken (last_of caller) c f below early are stands (in_one (f ∷ below) c stands)
 
-              node : (run_of F image costs first rest).node c (last_of caller) ≡ F.number c (place_of (due_at image first rest (last_of caller)) f (at (last_of caller)))
+              node : (run_of F image costs first rest).node c (last_of caller) ≡
+                  F.number c (place_of (due_at image first rest (last_of caller)) f (at (last_of caller)))
               node = node_is F image costs list x root first rest last placed (last_of caller) c f below (due_at image first rest (last_of caller)) are refl
 
               choose : Leaves x (place_of (due_at image first rest (last_of caller)) f (at (last_of caller))) d.step counter.cell
@@ -356,10 +381,14 @@ module _ (t image costs : List ℕ) (list : List BoundAssertion) (eight : Bool) 
                   ⊎ Adds (place_of (due_at image first rest (last_of caller)) f (at (last_of caller))) d.step d.before counter.cell
                   (counter.changes.up (F.number c (place_of (due_at image first rest (last_of caller)) f (at (last_of caller)))))
                   (counter.changes.down (F.number c (place_of (due_at image first rest (last_of caller)) f (at (last_of caller)))))
-                  → has_cell (after_call (summary_in x g.sub).written (taken (last_of caller) c f below early are stands (in_one (f ∷ below) c stands)).step.depth) counter.cell ≡ false
+                  → has_cell (after_call (summary_in x g.sub).written
+                  (taken (last_of caller) c f below early are stands (in_one (f ∷ below) c stands)).step.depth) counter.cell ≡ false
               choose (inl leaves) = leaves.call g.sub into
               choose (inr adds) = absurd (adds.stays g.sub into)
 
+-- where the program points of contexts change the cells of counters as these say, and asserted counts are kept, at each
+-- head of a run the cell is within the counter's numbers, and each step, and each call as a whole, changes it by what its
+-- node adds and takes
 pub counters_count : CountersCount
 counters_count t image costs list eight x F bound thresholds closed contexts changes root first rest last placed asserted = record {
   within = λ place c top below near these context.
@@ -368,5 +397,6 @@ counters_count t image costs list eight x F bound thresholds closed contexts cha
   goes = λ place c top below near move these context.
       goes t image costs list eight x F bound thresholds closed contexts changes root first rest last placed place c top below near move these context;
   goes_on = λ place c popped caller below near move these context.
-      goes_on t image costs list eight x F bound thresholds closed contexts changes root first rest last placed place c popped caller below near move these context;
+      goes_on t image costs list eight x F bound thresholds closed contexts changes root first rest last placed place c popped caller below near move
+      these context;
 }

@@ -1,0 +1,4 @@
+pub mod Bounded
+pub mod Held
+pub mod Rooted
+pub mod Targets
