@@ -1,0 +1,11 @@
+pub mod Orders
+pub mod Calls
+pub mod Limits
+pub mod Lists
+pub mod LoopsOnce
+pub mod OutcomesOnce
+pub mod CostsOnce
+pub mod Commons
+pub mod Gathered
+pub mod Answers
+pub mod Opened

@@ -1,0 +1,16 @@
+pub mod Changes
+pub mod ExtraCosts
+pub mod Few
+pub mod Fixed
+pub mod Kept
+pub mod Loops
+pub mod Marks
+pub mod OwnRows
+pub mod Passes
+pub mod Reached
+pub mod Shapes
+pub mod Viewed
+pub mod Copied
+pub mod Known
+pub mod Heads
+pub mod Costs

@@ -1,0 +1,4 @@
+pub mod Matched
+pub mod Lines
+pub mod Answer
+pub mod Laws
