@@ -1,0 +1,5 @@
+pub mod Answered
+pub mod Leading
+pub mod Program
+pub mod Told
+pub mod Worklist

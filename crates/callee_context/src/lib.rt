@@ -1,0 +1,15 @@
+//! The contexts of a program, and what each comes to.
+#![tactic(auto)]
+
+mod all_contexts;
+mod collecting;
+mod laws;
+mod leading;
+mod opening;
+mod program;
+mod refusal;
+mod telling;
+
+pub use all_contexts::contexts;
+pub use laws::needed_are_listed;
+pub use refusal::ContextRefusal;

@@ -1,0 +1,9 @@
+pub mod Permutations
+pub mod Agreeing
+pub mod Bounds
+pub mod Outcomes
+pub mod Roots
+pub mod Reportable
+pub mod Reports
+pub mod Reached
+pub mod Needed

@@ -1,0 +1,6 @@
+pub mod OneBound
+pub mod OneFacts
+pub mod OneHeads
+pub mod OneInside
+pub mod OneList
+pub mod OneNest

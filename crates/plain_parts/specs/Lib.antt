@@ -1,0 +1,4 @@
+pub mod Entered
+pub mod Joined
+pub mod Listed
+pub mod Searched
