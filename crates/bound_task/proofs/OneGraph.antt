@@ -7,7 +7,6 @@ use Rattle.std.proofs.lemmas.Bool.{or_cases, or_left, or_right}
 use Rattle.std.proofs.lemmas.List.{get_or-map, length-map}
 use Rattle.std.proofs.lemmas.List.Elements.{All-contains, Contains-get_or, Contains-append_left, Contains-append_right, Contains-append_cases}
 use Rattle.abs_state.specs.Key.{compare}
-use Rattle.abs_state.specs.declared.key.Key.{Key}
 use Rattle.assert_bind.specs.declared.body.BoundAssertion.{BoundAssertion}
 use Rattle.bt_base.proofs.RisingLists.{same_rising}
 use Rattle.code_thresholds.specs.Number.{AreThresholdsOf, IsOfCode, numbers_asserted}
@@ -20,16 +19,14 @@ use Rattle.flow_system.specs.State.{IsDueGraph}
 use Rattle.graph_text.proofs.KeyTexts.{graph_text_is_one}
 use Rattle.graph_text.specs.Text.{IsGraphText}
 use Rattle.transfer_fns.specs.Laws.{lawful_over, numbers_are}
-use Rattle.transfer_rules.specs.declared.fact.Fact.{Fact}
 use Rattle.value_lattice.specs.Order.{rank_of}
 use Rattle.value_lattice.specs.Passing.{words_below}
 use Rattle.value_lattice.specs.Thresholds.{constants, is_widened, widen}
 use Rattle.value_lattice.proofs.TestLemmas.{member_decides}
 use Rattle.value_lattice.proofs.WordsBelowLemmas.{words_rise, words_pass, words_fit, passing_is_there}
-use Rattle.bound_task.specs.Graph.{IsGraphOf, IsTooBigFor, most_nodes, rules_with}
+use Rattle.bound_task.specs.Graph.{most_nodes, rules_with}
 use Rattle.bound_task.specs.Laws.{GraphIsOne, GraphTextIsOneOf, TooBigHasNoGraph}
 use Rattle.bound_task.specs.Returning.{returning_in}
-use Rattle.bound_task.specs.Text.{IsGraphTextOf}
 
 -- ---- thresholds
 

@@ -4,20 +4,14 @@ use Rattle.std.specs.Prelude.{IfOk, IsErrOf}
 use Rattle.abs_state.specs.Key.{compare}
 use Rattle.abs_state.specs.declared.key.Key.{Key}
 use Rattle.assert_bind.specs.declared.body.BoundAssertion.{BoundAssertion}
-use Rattle.cycle_table.specs.Class.{has_eight}
 use Rattle.flow_core.specs.Core.{IsOver, counted_keys}
 use Rattle.flow_system.specs.Facts.{fact_at, KeysRise}
-use Rattle.flow_system.specs.Rules.{Rules}
 use Rattle.flow_system.specs.State.{IsDueGraph}
 use Rattle.transfer_fns.specs.Setting.{rules_over}
 use Rattle.transfer_rules.specs.declared.fact.Fact.{Fact}
 use Rattle.bound_task.specs.Graph.{IsGraphOf, IsTooBigFor, most_nodes, rules_with}
-use Rattle.bound_task.specs.Problem.{IsProblemOf}
+use Rattle.bound_task.specs.Problem.{IsProblemOf, rules_in}
 use Rattle.bound_task.specs.declared.problem.Problem.{Problem}
-
--- the rules of a problem
-abbrev pub rules_in : Problem → Rules Key Fact
-rules_in p = rules_over p.system.thresholds p.system.image p.system.binding p.system.eight
 
 same_rules : (p : Problem) (image costs : List ℕ) (those : List BoundAssertion) → IsProblemOf image costs those p
     → rules_in p ≡ rules_with p.system.thresholds image costs those

@@ -3,14 +3,12 @@ use Rattle.std.proofs.Common.{◌≡◌, ℕ, Bool, true, false, List, [], ◌�
 use Rattle.std.proofs.lemmas.Map.Keys.{IsStrictlyIncreasing-from_sorted}
 use Rattle.std.specs.List.{flat_map, AllByRecursion}
 use Rattle.std.specs.List.Sorted.{IsStrictlyIncreasing, IsStrictlySortedBy}
-use Rattle.std.specs.Map.{keys_of}
 use Rattle.std.specs.Ordering.{nat_cmp}
 use Rattle.std.specs.declared.cmp.Ordering.TheVariants.{Less}
 use Rattle.abs_state.specs.Key.{compare}
 use Rattle.abs_state.specs.declared.key.Key.{Key}
 use Rattle.abs_state.specs.declared.key.Key.TheVariants.{Node, Edge, Call, Summary, Gap}
-use Rattle.bound_task.specs.Returning.{returning_at, returning_by, returning_in}
-use Rattle.flow_system.specs.Facts.{fact_at, KeysRise}
+use Rattle.bound_task.specs.Returning.{returning_at, returning_by}
 use Rattle.transfer_rules.specs.declared.fact.Fact.{Fact}
 use Rattle.transfer_rules.specs.declared.fact.Fact.TheVariants as fact
 

@@ -1,5 +1,5 @@
 -- The due graph of an image, of the costs of a table of cycles and of assertions.
-use Rattle.std.specs.Prelude.{◌≡◌, ℕ, ◌≤◌, List}
+use Rattle.std.specs.Prelude.{ℕ, ◌≤◌, List}
 use Rattle.abs_state.specs.Key.{compare}
 use Rattle.abs_state.specs.declared.key.Key.{Key}
 use Rattle.assert_bind.specs.declared.body.BoundAssertion.{BoundAssertion}

@@ -1,5 +1,6 @@
 pub mod Graph
 pub mod Laws
+pub mod Outcomes
 pub mod Problem
 pub mod Returning
 pub mod Text

@@ -1,11 +1,10 @@
 -- Which subprograms return.
-use Rattle.std.specs.Prelude.{ℕ, List, [], ◌∷◌, Option, Some, None, ◌||◌, if◌then◌else◌}
+use Rattle.std.specs.Prelude.{ℕ, List, [], ◌∷◌, Option, Some, ◌||◌, if◌then◌else◌}
 use Rattle.std.specs.List.{flat_map}
 use Rattle.std.specs.Map.{keys_of}
 use Rattle.abs_state.specs.Key.{compare}
 use Rattle.abs_state.specs.declared.key.Key.{Key}
 use Rattle.abs_state.specs.declared.key.Key.TheVariants.{Node, Edge, Call, Summary, Gap}
-use Rattle.call_effects.specs.declared.summary.Summary.{Summary as Effects}
 use Rattle.flow_system.specs.Facts.{fact_at}
 use Rattle.transfer_rules.specs.declared.fact.Fact.{Fact}
 use Rattle.transfer_rules.specs.declared.fact.Fact.TheVariants as fact

@@ -1,5 +1,5 @@
 -- The text of the due graph of an image, of the costs of a table of cycles and of assertions.
-use Rattle.std.specs.Prelude.{◌≡◌, ℕ, List}
+use Rattle.std.specs.Prelude.{ℕ, List}
 use Rattle.std.specs.Map.{keys_of}
 use Rattle.abs_state.specs.declared.key.Key.{Key}
 use Rattle.assert_bind.specs.declared.body.BoundAssertion.{BoundAssertion}

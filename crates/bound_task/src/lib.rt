@@ -2,6 +2,7 @@
 #![tactic(auto)]
 
 mod analysis;
+mod judging;
 mod laws;
 mod problem;
 mod refusal;
@@ -9,7 +10,10 @@ mod returns;
 mod text;
 
 pub use analysis::{Analysis, analyse_alone};
-pub use laws::{graph_is_one, graph_text_is_one_of, too_big_has_no_graph};
+pub use laws::{
+    answers_exclude_each_other, first_unmatched_is_one, graph_is_one, graph_text_is_one_of,
+    outcomes_hold, too_big_has_no_graph,
+};
 pub use problem::Problem;
 pub use refusal::TaskRefusal;
 pub use returns::returning;

@@ -28,6 +28,9 @@ impl Problem {
         requires { All (SpeaksOfCodeIn image) binding }
         ensures { IfOk result (IsProblemOf image cycles binding) }
     {
+        // The assertions of a binding speak of different things, and an image is one that was accepted.
+        image.accepted();
+        binding.sound();
         let eight = cycles.eight();
         let system = SparcSystem::make(alloc, image, binding, eight)?;
         system.thresholds().are_thresholds();

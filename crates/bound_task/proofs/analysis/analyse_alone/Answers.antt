@@ -1,18 +1,18 @@
-use Rattle.std.proofs.Common.{◌≡◌, subst}
+use Rattle.std.proofs.Common.{subst}
+use Rattle.std.specs.Prelude.{IfErr, IfOk}
 use Rattle.abs_state.specs.Key.{compare}
-use Rattle.flow_system.specs.Facts.{KeysRise}
-use Rattle.bound_task.proofs.Problems.{err_moved, graph_of_problem, too_big_of_problem}
-use Rattle.bound_task.specs.declared.refusal.TaskRefusal.TheVariants.{Nodes}
+use Rattle.flow_core.specs.Refusal.{IsTooBig}
+use Rattle.flow_system.specs.Facts.{fact_at}
+use Rattle.flow_system.specs.State.{IsDueGraph}
+use Rattle.transfer_fns.specs.Setting.{rules_over}
 use Rattle.bound_task.proofs.analysis.analyse_alone.Goals as goal
 
-pub returns-in-Ok-clause-graph : goal.returns-in-Ok-clause-graph
-returns-in-Ok-clause-graph c =
-    λ image costs those p.
-    graph_of_problem c.args.p.now image costs those c.in-Ok.closed p (subst (KeysRise compare) c.facts.ensures c.len.ensures.rise)
-    c.in-Ok.ensures.due c.in-Ok.ensures.within
+pub answered-requires-clause-due : goal.answered-requires-clause-due
+answered-requires-clause-due c =
+    subst (λ s. IfOk c.grow_alone-grown.result (λ closed. IsDueGraph (rules_over s.thresholds s.image s.binding s.eight) (fact_at compare closed)))
+    c.system.ensures c.grow_alone-grown.ensures.due
 
-pub returns-in-Err-clause-nodes : goal.returns-in-Err-clause-nodes
-returns-in-Err-clause-nodes c =
-    λ image costs those count p is.
-    let big = c.in-Err.ensures.nodes count (err_moved c.in-Err.refusal (Nodes count) is) in
-    (big.0, too_big_of_problem c.args.p.now image costs those p big.1)
+pub answered-requires-clause-nodes : goal.answered-requires-clause-nodes
+answered-requires-clause-nodes c =
+    subst (λ s. IfErr c.grow_alone-grown.result (IsTooBig compare (rules_over s.thresholds s.image s.binding s.eight) 131072))
+    c.system.ensures c.grow_alone-grown.ensures.nodes
