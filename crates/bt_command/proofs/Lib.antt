@@ -1,7 +1,9 @@
 pub mod Ascii
 pub mod Asks
-pub mod Exact
-pub mod GraphExact
+pub mod Bounds
 pub mod Graphs
-pub mod Loops
-pub mod Wholes
+pub mod Listings
+pub mod Refusals
+pub mod Says
+pub mod Shown
+pub mod Told

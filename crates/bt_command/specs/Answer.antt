@@ -1,13 +1,12 @@
 -- What a call of the program answers to its words.
 use Rattle.std.specs.Prelude.{◌≡◌, ℕ, List}
 use Rattle.bt_words.specs.Request.{Asked, bounds, graphs, lists, IsRequest, IsRefused}
-use Rattle.bt_command.specs.Bound.{BoundSays, BoundIsWhole}
+use Rattle.bt_command.specs.Bound.{BoundSays, BoundIsWhole, BoundIsExact, BoundHolds}
 use Rattle.bt_command.specs.Call.{Call}
-use Rattle.bt_command.specs.Decode.{DecodeSays, DecodeIsWhole}
-use Rattle.bt_command.specs.Graph.{GraphSays, GraphIsWhole, GraphIsExact}
-use Rattle.bt_command.specs.Order.{BoundIsExact, DecodeIsExact}
+use Rattle.bt_command.specs.Decode.{DecodeSays, DecodeIsWhole, DecodeIsExact}
+use Rattle.bt_command.specs.Graph.{GraphSays, GraphIsWhole, GraphIsExact, GraphHolds}
 use Rattle.bt_command.specs.declared.status.Status.{Status}
-use Rattle.bt_command.specs.declared.status.Status.TheVariants.{Bounded, Usage, WriteFault, Want}
+use Rattle.bt_command.specs.declared.status.Status.TheVariants.{Bounded, Unbounded, Usage, WriteFault, Want}
 
 -- what a status says of a call that asks for this
 abbrev pub Says : Asked → Call → Status → Type 0
@@ -41,11 +40,12 @@ pub record PutsNothing (call : Call) : Type 0 where
 
 -- no count of faults of the shelf has moved, which a call that fetches can't promise of every shelf
 abbrev pub LeavesFaults : Call → Type 0
-LeavesFaults call = call.faults_after ≡ call.faults
+LeavesFaults call = call.read.faults_after ≡ call.read.faults
 
 -- with any status but that of the whole text and that of a text cut short nothing was put into the sink
 abbrev pub Writes : Call → Status → Type 0
 Writes call Bounded = Unit {0}
+Writes call Unbounded = Unit {0}
 Writes call (WriteFault written) = Unit {0}
 Writes call _ = PutsNothing call
 
@@ -56,3 +56,24 @@ pub data Answers (words : List (List ℕ)) (call : Call) : Status → Type 0 whe
   wanting : Answers words call Want
   answered : (asked : Asked) {status : Status} → IsRequest words asked → Says asked call status → IsWhole asked call status
       → IsExact asked call status → Answers words call status
+
+-- What a command has written holds of the runs of the program that its files are. The report: each run that meets the assertions
+-- follows, up to its first gap, only the due graph's edges, passes each loop head at most its bound, and never spends in a call
+-- more than the bound shown for its context. The graph: each such run is followed by it up to its first gap. Of a listing nothing
+-- is said.
+abbrev pub ShownHolds : Asked → Call → Type 0
+ShownHolds (bounds image cycles assertions workers) call = BoundHolds (record { image = image; cycles = cycles; assertions = assertions }) call
+ShownHolds (graphs image cycles assertions workers) call = GraphHolds (record { image = image; cycles = cycles; assertions = assertions }) call
+ShownHolds (lists image) call = Unit {0}
+
+-- what the words ask for was written, and holds of runs
+pub record HasShown (words : List (List ℕ)) (call : Call) : Type 0 where
+  pub asked : Asked
+  pub request : IsRequest words asked
+  pub holds : ShownHolds asked call
+
+-- with the status of a whole text this is so
+abbrev pub HoldsOfRuns : List (List ℕ) → Call → Status → Type 0
+HoldsOfRuns words call Bounded = HasShown words call
+HoldsOfRuns words call Unbounded = HasShown words call
+HoldsOfRuns words call _ = Unit {0}

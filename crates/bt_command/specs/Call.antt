@@ -12,36 +12,47 @@ use Rattle.bt_base.specs.Sink.{Appended}
 use Rattle.bt_image.specs.Refusal.{first_refusal}
 use Rattle.bt_image.specs.declared.refusal.ImageRefusal.{ImageRefusal}
 use Rattle.bt_command.specs.declared.status.AssertFault.{AssertFault}
-use Rattle.bt_command.specs.declared.status.AssertFault.TheVariants.{Parse, Bind}
+use Rattle.bt_command.specs.declared.status.AssertFault.TheVariants.{Parse, Bind, Unmatched}
 use Rattle.cycle_table.specs.Table.{table_of}
 use Rattle.cycle_table.specs.declared.refusal.CycleRefusal.{CycleRefusal}
 
--- what a call is given, and what it leaves: what the shelf tells under each name, the counts of faults of the shelf
--- and the sink before and after, what was asked of the shelf before and after, and what the sink tells before and after
-pub record Call : Type 0 where
+-- what is read from a shelf: what it tells under each name, its counts of faults before and after, and what was asked of it before
+-- and after
+pub record Reading : Type 0 where
   pub told : List ℕ → Option (List ℕ)
   pub faults : List ℕ → ℕ
   pub faults_after : List ℕ → ℕ
+  pub asked : List Ask
+  pub asked_after : List Ask
+
+-- the reading between two states of a shelf, of which these are the meanings
+abbrev pub reading_of : {F : Type 0} → (F → List ℕ → Option (List ℕ)) → (F → List ℕ → ℕ) → (F → List Ask) → F → F → Reading
+reading_of told faults asked shelf shelf_after = record {
+  told = told shelf;
+  faults = faults shelf;
+  faults_after = faults shelf_after;
+  asked = asked shelf;
+  asked_after = asked shelf_after;
+}
+
+-- what a call is given, and what it leaves: what is read from the shelf, and what the sink tells and its count of faults before and
+-- after
+pub record Call : Type 0 where
+  pub read : Reading
   pub written : Option (List ℕ)
   pub written_after : Option (List ℕ)
   pub sink_faults : ℕ
   pub sink_faults_after : ℕ
-  pub asked : List Ask
-  pub asked_after : List Ask
 
 -- the call between these states of a shelf and a sink, of which these are the meanings
 abbrev pub call_of : {F K : Type 0} → (F → List ℕ → Option (List ℕ)) → (F → List ℕ → ℕ) → (F → List Ask) → (K → Option (List ℕ)) → (K → ℕ)
     → F → F → K → K → Call
 call_of told faults asked written sink_faults shelf shelf_after sink sink_after = record {
-  told = told shelf;
-  faults = faults shelf;
-  faults_after = faults shelf_after;
+  read = reading_of told faults asked shelf shelf_after;
   written = written sink;
   written_after = written sink_after;
   sink_faults = sink_faults sink;
   sink_faults_after = sink_faults sink_after;
-  asked = asked shelf;
-  asked_after = asked shelf_after;
 }
 
 -- the most bytes of an image, 16 MiB
@@ -56,9 +67,9 @@ longest_table = 1048576
 abbrev pub longest_assertions : ℕ
 longest_assertions = 1048576
 
--- the count of faults of a name has risen in the call
-abbrev pub RoseFor : Call → List ℕ → Type 0
-RoseFor call name = Rose (call.faults name) (call.faults_after name)
+-- the count of faults of a name has risen
+abbrev pub RoseFor : Reading → List ℕ → Type 0
+RoseFor read name = Rose (read.faults name) (read.faults_after name)
 
 -- the count of faults of the sink has risen in the call
 abbrev pub RoseForSink : Call → Type 0
@@ -132,10 +143,11 @@ pub record IsUnbound (told : Option (List ℕ)) (image : List ℕ) (refusal : Bi
   pub parsed : assertions_of text ≡ Ok list
   pub refused : binding image list ≡ Err refusal
 
--- why a file states nothing of an image
+-- why a file states nothing of an image; that a loop is unmatched isn't said by the file
 abbrev pub StatesNothing : Option (List ℕ) → List ℕ → AssertFault → Type 0
 StatesNothing told image (Parse refusal) = IsNoList told refusal
 StatesNothing told image (Bind refusal) = IsUnbound told image refusal
+StatesNothing told image (Unmatched line) = ⊥
 
 -- the whole of a text was written
 pub record IsWritten (call : Call) (IsText : List ℕ → Type 0) : Type 0 where

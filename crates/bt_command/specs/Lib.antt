@@ -3,7 +3,9 @@ pub mod Asks
 pub mod Bound
 pub mod Call
 pub mod Decode
+pub mod Files
 pub mod Graph
 pub mod Order
-pub mod Report
+pub mod Program
+pub mod Refusal
 pub mod Status

@@ -17,14 +17,15 @@ use Rattle.cycle_table.specs.declared.refusal.CycleRefusal.TheVariants as cycles
 use Rattle.cycle_table.specs.declared.refusal.Why.{Why}
 use Rattle.cycle_table.specs.declared.refusal.Why.TheVariants as why
 use Rattle.bt_command.specs.declared.status.AssertFault.{AssertFault}
-use Rattle.bt_command.specs.declared.status.AssertFault.TheVariants.{Parse, Bind}
-use Rattle.bt_command.specs.declared.status.LimitFault.TheVariants.{TooLong, Nodes}
+use Rattle.bt_command.specs.declared.status.AssertFault.TheVariants.{Parse, Bind, Unmatched}
+use Rattle.bt_command.specs.declared.status.LimitFault.TheVariants.{TooLong, Nodes, Contexts}
 use Rattle.bt_command.specs.declared.status.Status.{Status}
-use Rattle.bt_command.specs.declared.status.Status.TheVariants.{Bounded, Usage, Image, Cycles, Assertions, ReadFault, WriteFault, Want, Limit, NotYet}
+use Rattle.bt_command.specs.declared.status.Status.TheVariants.{Bounded, Unbounded, Usage, Image, Cycles, Assertions, ReadFault, WriteFault, Want, Limit}
 
 -- the exit status of the program
 abbrev pub code_of : Status → ℕ
 code_of Bounded = 0
+code_of Unbounded = 1
 code_of Usage = 2
 code_of (Image refusal) = 3
 code_of (Cycles refusal) = 4
@@ -33,7 +34,6 @@ code_of (ReadFault file) = 6
 code_of (WriteFault written) = 7
 code_of Want = 8
 code_of (Limit fault) = 9
-code_of (NotYet file) = 10
 
 -- what there may be too many of
 abbrev pub counted_text : Counted → List ℕ
@@ -106,10 +106,12 @@ bind_text bind.Want = codes "Want"
 abbrev pub assertions_text : AssertFault → List ℕ
 assertions_text (Parse refusal) = parse_text refusal
 assertions_text (Bind refusal) = bind_text refusal
+assertions_text (Unmatched line) = codes "Unmatched line " ++ decimal line
 
 -- the message, without an end of line
 abbrev pub message_of : Status → List ℕ
 message_of Bounded = codes "boundt: 0 Bounded"
+message_of Unbounded = codes "boundt: 1 Unbounded"
 message_of Usage = codes "boundt: 2 Usage"
 message_of (Image refusal) = codes "boundt: 3 " ++ image_text refusal
 message_of (Cycles refusal) = codes "boundt: 4 " ++ cycles_text refusal
@@ -119,4 +121,4 @@ message_of (WriteFault written) = codes "boundt: 7 WriteFault written " ++ decim
 message_of Want = codes "boundt: 8 Want"
 message_of (Limit (TooLong file limit)) = codes "boundt: 9 TooLong file " ++ (decimal file ++ (codes " limit " ++ decimal limit))
 message_of (Limit (Nodes count)) = codes "boundt: 9 Nodes count " ++ decimal count
-message_of (NotYet file) = codes "boundt: 10 NotYet file " ++ decimal file
+message_of (Limit (Contexts count)) = codes "boundt: 9 Contexts count " ++ decimal count

@@ -1,47 +1,34 @@
-//! The graph of a call's files.
-ghost use Rattle.std.specs.Prelude.{◌≡◌, ℕ, All, IfOk, IsErrOf};
-ghost use Rattle.assert_bind.specs.Binding.{loops};
-ghost use Rattle.assert_bind.specs.Body.{SpeaksOfCodeIn};
-ghost use Rattle.bound_task.specs.Graph.{IsTooBigFor};
-ghost use Rattle.bound_task.specs.Text.{IsGraphTextOf};
-ghost use Rattle.bt_command.specs.Graph.{has_loop};
+//! The graph of a problem.
+ghost use Rattle.std.specs.Prelude.{◌≡◌, ℕ, List, IfOk, IsErrOf};
+ghost use Rattle.assert_bind.specs.declared.body.BoundAssertion.{BoundAssertion};
+ghost use Rattle.bound_task.specs.Problem.{IsProblemOf};
+ghost use Rattle.bt_command.specs.Program.{RefusesProgram, IsGraphThatHolds};
+ghost use Rattle.bt_command.specs.declared.status.Status.{Status};
 
-use assert_bind::Binding;
-use bound_task::{Problem, TaskRefusal, analyse_alone, graph_text};
+use crate::Status;
+use crate::refusal::status_of;
+use bound_task::{Problem, analyse_alone, graph_text};
 use bt_base::Want;
-use bt_image::Image;
-use cycle_table::Cycles;
+use graph_runs::runs_follow_due_graphs;
 use std::alloc::Global;
 
-/// Whether assertions bound a loop.
-#[tactic(auto, using(crate::proofs::Loops::some_or_none))]
-pub fn has_loops(binding: &Binding) -> bool
-    ensures { result ≡ has_loop (loops binding.now) }
+/// The text of the due graph of a problem, by which the runs of its program are followed.
+///
+/// What an analysis refuses is answered as the status of that refusal.
+pub fn graph_of(alloc: Global, problem: &Problem) -> Result<Vec<u8>, Status>
+    ensures graph { (image costs : List ℕ) (those : List BoundAssertion) → IsProblemOf image costs those problem.now
+        → IfOk result (λ text. IsGraphThatHolds image costs those text.items) }
+    ensures refused { (image costs : List ℕ) (those : List BoundAssertion) (status : Status) → IsProblemOf image costs those problem.now
+        → IsErrOf result status → RefusesProgram image costs those status }
 {
-    !binding.loops().is_empty()
-}
-
-/// The text of the due graph of an image, a table of cycles and assertions, which speak of code of this image.
-pub fn graph_for(
-    alloc: Global,
-    image: Image,
-    cycles: Cycles,
-    binding: Binding,
-) -> Result<Vec<u8>, TaskRefusal>
-    requires { All (SpeaksOfCodeIn image) binding }
-    ensures text { IfOk result (λ text. IsGraphTextOf image cycles binding text.items) }
-    ensures nodes { (count : ℕ) → IsErrOf result (TaskRefusal.Nodes count) → (count ≡ 131073) × IsTooBigFor image cycles binding }
-{
-    let problem = match Problem::make(alloc, image, cycles, binding) {
-        Ok(problem) => problem,
-        Err(Want) => return Err(TaskRefusal::Want),
-    };
-    let analysis = match analyse_alone(alloc, &problem) {
+    let analysis = match analyse_alone(alloc, problem) {
         Ok(analysis) => analysis,
-        Err(refusal) => return Err(refusal),
+        Err(refusal) => return Err(status_of(refusal)),
     };
+    // Runs that meet the assertions are followed by the due graph.
+    runs_follow_due_graphs();
     match graph_text(alloc, &analysis, problem.system().image()) {
         Ok(text) => Ok(text),
-        Err(Want) => Err(TaskRefusal::Want),
+        Err(Want) => Err(Status::Want),
     }
 }

@@ -1,9 +1,12 @@
 //! The commands of boundt, over any shelf of files and any sink.
 #![tactic(auto)]
 
+mod bounding;
 mod graphing;
 mod inputs;
 mod messages;
+mod program;
+mod refusal;
 mod reporting;
 mod running;
 mod status;

@@ -3,27 +3,24 @@ ghost use Rattle.std.specs.Prelude.{◌≡◌, ◌≤◌, ℕ, List};
 ghost use Rattle.bt_base.specs.Ask.{IsReading};
 ghost use Rattle.bt_base.specs.Shelf.{TellsTheSame, NoneFalls};
 ghost use Rattle.bt_words.specs.Request.{texts};
-ghost use Rattle.bt_command.specs.Answer.{Answers, Writes};
+ghost use Rattle.bt_command.specs.Answer.{Answers, HoldsOfRuns, Writes};
 ghost use Rattle.bt_command.specs.Asks.{AsksInOrder, ReadsInOrder};
-ghost use Rattle.bt_command.specs.Bound.{BoundSays};
-ghost use Rattle.bt_command.specs.Call.{call_of, longest_image};
+ghost use Rattle.bt_command.specs.Bound.{BoundSays, BoundShows};
+ghost use Rattle.bt_command.specs.Call.{call_of, reading_of, longest_image};
 ghost use Rattle.bt_command.specs.Decode.{DecodeSays};
-ghost use Rattle.bt_command.specs.Graph.{GraphSays};
+ghost use Rattle.bt_command.specs.Graph.{GraphSays, GraphShows};
 
-use crate::graphing::{graph_for, has_loops};
-use crate::inputs::{
-    ASSERTIONS_LIMIT, IMAGE_LIMIT, NoFile, TABLE_LIMIT, assertions_from, cycles_from, image_from,
-};
-use crate::reporting::{NoReport, only_root, report_for};
+use crate::graphing::graph_of;
+use crate::inputs::{IMAGE_LIMIT, NoFile, image_from};
+use crate::program::problem_from;
+use crate::reporting::report_of;
 use crate::{LimitFault, Status};
-use bound_task::TaskRefusal;
 use bt_base::{Shelf, Sink, write_all};
 use bt_words::{NoRequest, Request, request_of};
 use sparc_text::listing;
 use std::alloc::Global;
 
 /// The command `bound`: reads the image, the table and the assertions, makes the report and writes it.
-#[tactic(auto, using(crate::proofs::Asks::read_image))]
 fn bound<F: Shelf, K: Sink>(
     alloc: Global,
     image: &str,
@@ -36,56 +33,24 @@ fn bound<F: Shelf, K: Sink>(
     ensures counts { NoneFalls (F.faults shelf.old) (F.faults shelf.new) }
     ensures sink_counts { K.faults out.old ≤ K.faults out.new }
     ensures says { BoundSays (record { image = image.now; cycles = cycles.now; assertions = assertions.now }) (call_of F.told F.faults F.asked K.told K.faults shelf.old shelf.new out.old out.new) result }
+    ensures shows { BoundShows (record { image = image.now; cycles = cycles.now; assertions = assertions.now }) (call_of F.told F.faults F.asked K.told K.faults shelf.old shelf.new out.old out.new) result }
     ensures writes { Writes (call_of F.told F.faults F.asked K.told K.faults shelf.old shelf.new out.old out.new) result }
-    ensures asks { ReadsInOrder (record { image = image.now; cycles = cycles.now; assertions = assertions.now }) (call_of F.told F.faults F.asked K.told K.faults shelf.old shelf.new out.old out.new) }
+    ensures asks { ReadsInOrder (record { image = image.now; cycles = cycles.now; assertions = assertions.now }) (reading_of F.told F.faults F.asked shelf.old shelf.new) }
 {
-    let image = match image_from(alloc, shelf, image) {
-        Ok(image) => image,
-        Err(NoFile::Fault) => return Status::ReadFault { file: 1 },
-        Err(NoFile::TooLong) => {
-            return Status::Limit(LimitFault::TooLong {
-                file: 1,
-                limit: IMAGE_LIMIT,
-            });
-        }
-        Err(NoFile::Refused(refusal)) => return Status::Image(refusal),
-        Err(NoFile::Want) => return Status::Want,
+    let problem = match problem_from(alloc, image, cycles, assertions, shelf) {
+        Ok(problem) => problem,
+        Err(status) => return status,
     };
-    let cycles = match cycles_from(alloc, shelf, cycles) {
-        Ok(cycles) => cycles,
-        Err(NoFile::Fault) => return Status::ReadFault { file: 2 },
-        Err(NoFile::TooLong) => {
-            return Status::Limit(LimitFault::TooLong {
-                file: 2,
-                limit: TABLE_LIMIT,
-            });
-        }
-        Err(NoFile::Refused(refusal)) => return Status::Cycles(refusal),
-        Err(NoFile::Want) => return Status::Want,
+    let report = match report_of(alloc, &problem) {
+        Ok(report) => report,
+        Err(status) => return status,
     };
-    let binding = match assertions_from(alloc, shelf, assertions, &image) {
-        Ok(binding) => binding,
-        Err(NoFile::Fault) => return Status::ReadFault { file: 3 },
-        Err(NoFile::TooLong) => {
-            return Status::Limit(LimitFault::TooLong {
-                file: 3,
-                limit: ASSERTIONS_LIMIT,
-            });
-        }
-        Err(NoFile::Refused(fault)) => return Status::Assertions(fault),
-        Err(NoFile::Want) => return Status::Want,
-    };
-    let entry = match only_root(&binding) {
-        Some(entry) => entry,
-        None => return Status::NotYet { file: 3 },
-    };
-    let text = match report_for(alloc, &image, &cycles, entry) {
-        Ok(text) => text,
-        Err(NoReport::NotStraight) => return Status::NotYet { file: 1 },
-        Err(NoReport::Want) => return Status::Want,
-    };
-    match write_all(out, &text) {
-        Ok(()) => Status::Bounded,
+    match write_all(out, &report.text) {
+        Ok(()) => if report.bounded {
+            Status::Bounded
+        } else {
+            Status::Unbounded
+        },
         Err(unwritten) => Status::WriteFault {
             written: unwritten.written,
         },
@@ -93,7 +58,6 @@ fn bound<F: Shelf, K: Sink>(
 }
 
 /// The command `graph`: reads the image, the table and the assertions, makes the text of the due graph and writes it.
-#[tactic(auto, using(crate::proofs::Asks::read_image))]
 fn graph<F: Shelf, K: Sink>(
     alloc: Global,
     image: &str,
@@ -106,52 +70,17 @@ fn graph<F: Shelf, K: Sink>(
     ensures counts { NoneFalls (F.faults shelf.old) (F.faults shelf.new) }
     ensures sink_counts { K.faults out.old ≤ K.faults out.new }
     ensures says { GraphSays (record { image = image.now; cycles = cycles.now; assertions = assertions.now }) (call_of F.told F.faults F.asked K.told K.faults shelf.old shelf.new out.old out.new) result }
+    ensures shows { GraphShows (record { image = image.now; cycles = cycles.now; assertions = assertions.now }) (call_of F.told F.faults F.asked K.told K.faults shelf.old shelf.new out.old out.new) result }
     ensures writes { Writes (call_of F.told F.faults F.asked K.told K.faults shelf.old shelf.new out.old out.new) result }
-    ensures asks { ReadsInOrder (record { image = image.now; cycles = cycles.now; assertions = assertions.now }) (call_of F.told F.faults F.asked K.told K.faults shelf.old shelf.new out.old out.new) }
+    ensures asks { ReadsInOrder (record { image = image.now; cycles = cycles.now; assertions = assertions.now }) (reading_of F.told F.faults F.asked shelf.old shelf.new) }
 {
-    let image = match image_from(alloc, shelf, image) {
-        Ok(image) => image,
-        Err(NoFile::Fault) => return Status::ReadFault { file: 1 },
-        Err(NoFile::TooLong) => {
-            return Status::Limit(LimitFault::TooLong {
-                file: 1,
-                limit: IMAGE_LIMIT,
-            });
-        }
-        Err(NoFile::Refused(refusal)) => return Status::Image(refusal),
-        Err(NoFile::Want) => return Status::Want,
+    let problem = match problem_from(alloc, image, cycles, assertions, shelf) {
+        Ok(problem) => problem,
+        Err(status) => return status,
     };
-    let cycles = match cycles_from(alloc, shelf, cycles) {
-        Ok(cycles) => cycles,
-        Err(NoFile::Fault) => return Status::ReadFault { file: 2 },
-        Err(NoFile::TooLong) => {
-            return Status::Limit(LimitFault::TooLong {
-                file: 2,
-                limit: TABLE_LIMIT,
-            });
-        }
-        Err(NoFile::Refused(refusal)) => return Status::Cycles(refusal),
-        Err(NoFile::Want) => return Status::Want,
-    };
-    let those = match assertions_from(alloc, shelf, assertions, &image) {
-        Ok(those) => those,
-        Err(NoFile::Fault) => return Status::ReadFault { file: 3 },
-        Err(NoFile::TooLong) => {
-            return Status::Limit(LimitFault::TooLong {
-                file: 3,
-                limit: ASSERTIONS_LIMIT,
-            });
-        }
-        Err(NoFile::Refused(fault)) => return Status::Assertions(fault),
-        Err(NoFile::Want) => return Status::Want,
-    };
-    if has_loops(&those) {
-        return Status::NotYet { file: 3 };
-    }
-    let text = match graph_for(alloc, image, cycles, those) {
+    let text = match graph_of(alloc, &problem) {
         Ok(text) => text,
-        Err(TaskRefusal::Nodes { count }) => return Status::Limit(LimitFault::Nodes { count }),
-        Err(TaskRefusal::Want) => return Status::Want,
+        Err(status) => return status,
     };
     match write_all(out, &text) {
         Ok(()) => Status::Bounded,
@@ -197,11 +126,12 @@ fn decode<F: Shelf, K: Sink>(alloc: Global, image: &str, shelf: &mut F, out: &mu
 /// Runs the command that the words ask for, reads its files from the shelf, and writes its text to the sink.
 ///
 /// The words are those after the program's name: `bound IMAGE CYCLES ASSERTIONS [--workers N]`, the same with `graph`, or
-/// `decode IMAGE`. The assertions of `bound` state one root, whose code is straight, and those of `graph` bound no loop;
-/// other assertions and other code are answered with NotYet. One worker works whatever N is. What is refused is refused
-/// in this order: the words, the image, the table of cycles, the assertions as a text and then as bound to the image,
-/// what they state (NotYet of file 3), the root's code (NotYet of file 1), the size of the due graph. Of a file a failed
-/// read comes first, then its length, then its bytes. Nothing is written before the whole text stands.
+/// `decode IMAGE`. `bound` writes the report, `graph` the due graph, `decode` the listing. One worker works whatever N
+/// is. The status is Bounded where the whole text is written, but Unbounded where it is a report in which some root has
+/// no bound. What is refused is refused in this order: the words, the image, the table of cycles, the assertions as a
+/// text and then as bound to the image, more program points than 131,072, an asserted loop that no loop matches, more
+/// contexts than 4,096. Of a file a failed read comes first, then its length, then its bytes. Nothing is written before
+/// the whole text stands.
 pub fn run_alone<F: Shelf, K: Sink>(
     alloc: Global,
     words: &[String],
@@ -215,6 +145,10 @@ pub fn run_alone<F: Shelf, K: Sink>(
     // The words are refused, or what the status says of the call is true, accepted files give the whole text, and files
     // that are told come to the first refusal of their bytes.
     ensures answers { Answers (texts words.now) (call_of F.told F.faults F.asked K.told K.faults shelf.old shelf.new out.old out.new) result }
+    // The report written is the one that the due graph defines; and every trap-free run that meets the assertions follows, up
+    // to its first open instruction, only that graph's edges, passes each loop head at most its bound, and never spends in a
+    // call more than the bound printed for its context. The graph written is the due graph, and is followed so.
+    ensures runs { HoldsOfRuns (texts words.now) (call_of F.told F.faults F.asked K.told K.faults shelf.old shelf.new out.old out.new) result }
     // Nothing is asked of the shelf but the files that the words name, in their order, each only once the one before is
     // accepted.
     ensures asks { AsksInOrder (texts words.now) (call_of F.told F.faults F.asked K.told K.faults shelf.old shelf.new out.old out.new) }

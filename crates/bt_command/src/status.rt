@@ -14,8 +14,10 @@ use std::process::ExitCode;
 /// What a call of the program came to.
 #[derive(Clone, Copy, Debug, PartialEq, Eq)]
 pub enum Status {
-    /// The whole text was written, and each root has a bound.
+    /// The whole text was written, and in a report each root has a bound.
     Bounded,
+    /// The whole report was written, and some root has no bound.
+    Unbounded,
     /// The words are no command.
     Usage,
     /// The image is none, for this reason.
@@ -32,8 +34,6 @@ pub enum Status {
     Want,
     /// A limit is passed.
     Limit(LimitFault),
-    /// This file is of a form that isn't built yet.
-    NotYet { file: u32 },
 }
 
 /// Why a file of assertions isn't accepted.
@@ -43,6 +43,8 @@ pub enum AssertFault {
     Parse(AssertRefusal),
     /// An assertion can't be bound to the image.
     Bind(BindRefusal),
+    /// No loop of the program matches that of an assertion; this is the least of the lines of such assertions.
+    Unmatched { line: u32 },
 }
 
 /// Which limit is passed.
@@ -52,6 +54,8 @@ pub enum LimitFault {
     TooLong { file: u32, limit: u64 },
     /// The due graph has more program points than its limit; `count` is one more than that limit.
     Nodes { count: u64 },
+    /// More contexts are needed than their limit; `count` is one more than that limit.
+    Contexts { count: u64 },
 }
 
 impl Status {
@@ -61,6 +65,7 @@ impl Status {
     {
         match self {
             Status::Bounded => 0,
+            Status::Unbounded => 1,
             Status::Usage => 2,
             Status::Image(_) => 3,
             Status::Cycles(_) => 4,
@@ -69,7 +74,6 @@ impl Status {
             Status::WriteFault { .. } => 7,
             Status::Want => 8,
             Status::Limit(_) => 9,
-            Status::NotYet { .. } => 10,
         }
     }
 
@@ -80,6 +84,7 @@ impl Status {
     {
         let text = match self {
             Status::Bounded => format!(in alloc; "boundt: 0 Bounded"),
+            Status::Unbounded => format!(in alloc; "boundt: 1 Unbounded"),
             Status::Usage => format!(in alloc; "boundt: 2 Usage"),
             Status::Image(refusal) => {
                 let refusal = image_text(alloc, refusal)?;
@@ -97,6 +102,9 @@ impl Status {
                 let refusal = bind_text(alloc, refusal)?;
                 format!(in alloc; "boundt: 5 {refusal}")
             }
+            Status::Assertions(AssertFault::Unmatched { line }) => {
+                format!(in alloc; "boundt: 5 Unmatched line {line}")
+            }
             Status::ReadFault { file } => format!(in alloc; "boundt: 6 ReadFault file {file}"),
             Status::WriteFault { written } => {
                 format!(in alloc; "boundt: 7 WriteFault written {written}")
@@ -108,7 +116,9 @@ impl Status {
             Status::Limit(LimitFault::Nodes { count }) => {
                 format!(in alloc; "boundt: 9 Nodes count {count}")
             }
-            Status::NotYet { file } => format!(in alloc; "boundt: 10 NotYet file {file}"),
+            Status::Limit(LimitFault::Contexts { count }) => {
+                format!(in alloc; "boundt: 9 Contexts count {count}")
+            }
         };
         match text {
             Ok(text) => Ok(text),

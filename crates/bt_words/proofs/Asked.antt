@@ -44,6 +44,7 @@ entered_answer : (entered : Option (Text × List Row)) → IsMatched entered →
 entered_answer None h = absurd h
 entered_answer (Some p) h = answer p.0 p.1 h
 
+-- words without a fault ask for something
 pub faultless_words_ask : FaultlessWordsAsk
 faultless_words_ask words e =
     let asked = entered_answer (subcommand_of boundt_app words) (matched words e) in

@@ -1,15 +1,18 @@
 -- The first word of words without a fault is a command: the command line has no option of its own.
-use Rattle.std.proofs.Common.{◌≡◌, ◌⊎◌, ℕ, Bool, cond, codes, true, false, zero, suc, List, [], ◌∷◌, length, Option, Some, None, is_some, inl, inr, refl, sym, ap, subst}
+use Rattle.std.proofs.Common.{◌≡◌, ◌⊎◌, ℕ, Bool, cond, codes, true, false, zero, suc, List, [], ◌∷◌, length, Option, Some, None, is_some, inl, inr}
+use Rattle.std.proofs.Common.{refl, sym, ap, subst}
 use Rattle.std.specs.Prelude.{slice_get}
 use Rattle.std.specs.List.{fold}
 use Rattle.std.specs.Option.{option_map_or}
 use Rattle.std.specs.Str.{bytes_eq, chars}
 use Rattle.std.proofs.lemmas.Slice.Eq.{bytes_eq-Decides}
 use Rattle.clap.specs.Lexer.{long_of, short_of}
-use Rattle.clap.specs.Faults.{bundle_fault, bundle_step_fault, check_fault, entered_fault, flag_word_fault, flags_fault, other_fault, step_fault, turn_fault, walk_fault}
+use Rattle.clap.specs.Faults.{bundle_fault, bundle_step_fault, check_fault, entered_fault, flag_word_fault, flags_fault, other_fault, step_fault}
+use Rattle.clap.specs.Faults.{turn_fault, walk_fault}
 use Rattle.clap.specs.Kinds.{Kinds, or_else}
 use Rattle.clap.specs.Simple.{Shape, entered, names_of}
-use Rattle.clap.specs.Walk.{Held, Names, Outcome, Step, Text, Walk, after_flag, after_step, bundle_met, bundle_step, idle, long_or_other, nothing_held, plain, short_or_plain, subcommand_met, subcommand_or_other, trailing, value, walk, walk_from, walked}
+use Rattle.clap.specs.Walk.{Held, Names, Outcome, Step, Text, Walk, after_flag, after_step, bundle_met, bundle_step, idle, long_or_other}
+use Rattle.clap.specs.Walk.{nothing_held, plain, short_or_plain, subcommand_met, subcommand_or_other, trailing, value, walk, walk_from, walked}
 use Rattle.bt_words.specs.Law.{CommandsComeFirst}
 use Rattle.bt_words.proofs.Matches.{top_built}
 use Rattle.bt_words.proofs.Rows.{both_pass}
@@ -66,7 +69,8 @@ no_command : (first : Text) (rest : List Text) (d : Bool)
     (cond d (nothing_held, trailing 1) (long_or_other [] idle first (long_of first) nothing_held)).1) ≡ []
     → walk_fault top names (after_step [] first before (cond d (nothing_held, trailing 1) (long_or_other [] idle first (long_of first) nothing_held)).0
     (cond d (nothing_held, trailing 1) (long_or_other [] idle first (long_of first) nothing_held)).1) rest ≡ []
-    → checked (fold (walked [] names) (after_step [] first before (cond d (nothing_held, trailing 1) (long_or_other [] idle first (long_of first) nothing_held)).0
+    → checked (fold (walked [] names) (after_step [] first before
+    (cond d (nothing_held, trailing 1) (long_or_other [] idle first (long_of first) nothing_held)).0
     (cond d (nothing_held, trailing 1) (long_or_other [] idle first (long_of first) nothing_held)).1) rest) ≡ [] → ⊥
 no_command first rest true turn later check =
     let none = no_more rest later in
@@ -86,11 +90,14 @@ first_met : (first : Text) (rest : List Text) → subcommand_met names idle firs
 unfolding walk_fault walked
 first_met first rest none faultless check =
     let parts = both_pass (turn_fault top names before first) _ faultless in
-    let turn = subst (λ (o : Option Text). or_else (other_fault top o first nothing_held) (step_fault top 1 (met o first).0 (met o first).1) ≡ []) none parts.0 in
+    let turn = subst (λ (o : Option Text). or_else (other_fault top o first nothing_held) (step_fault top 1 (met o first).0 (met o first).1) ≡ [])
+    none parts.0 in
     let later = subst (λ (o : Option Text). walk_fault top names (after_step [] first before (met o first).0 (met o first).1) rest ≡ []) none parts.1 in
-    let last = subst (λ (o : Option Text). checked (fold (walked [] names) (after_step [] first before (met o first).0 (met o first).1) rest) ≡ []) none check in
+    let last = subst (λ (o : Option Text). checked (fold (walked [] names) (after_step [] first before (met o first).0 (met o first).1) rest) ≡ [])
+    none check in
     no_command first rest (bytes_eq first (45 ∷ 45 ∷ [])) turn later last
 
+-- in words without a fault a command comes first
 pub commands_come_first : CommandsComeFirst
 commands_come_first first rest e =
     go (bytes_eq (codes "bound") first) refl (bytes_eq (codes "graph") first) refl (bytes_eq (codes "decode") first) refl

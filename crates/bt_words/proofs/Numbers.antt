@@ -16,6 +16,7 @@ no_minus t passed = go (starts_with_minus t) refl
         absurd (omega (arith, ints))
     go false minus = refl
 
+-- a text that reads as a number from 1 to 64 has that number
 pub number_within : (t : Text) → IsSignedIn (pos 1) (pos 64) t → (1 ≤ number_of t) × (number_of t ≤ 64)
 number_within t passed =
     let minus = no_minus t passed in
@@ -28,6 +29,7 @@ name_of_plain [] e = refl
 name_of_plain (x ∷ []) e = refl
 name_of_plain (x ∷ y ∷ rest) e = ap not e
 
+-- such a text is no option
 pub number_is_name : (t : Text) → IsSignedIn (pos 1) (pos 64) t → is_name t ≡ true
 number_is_name t passed = name_of_plain t (no_minus t passed)
 
@@ -35,5 +37,6 @@ plain_as_it_is : (t : Text) → starts_with_minus t ≡ false → without_minus 
 plain_as_it_is [] e = refl
 plain_as_it_is (x ∷ xs) e = ap (λ b. unwrap_or (cond b (Some xs) None) (x ∷ xs)) e
 
+-- such a text begins with no minus
 pub number_as_it_is : (t : Text) → IsSignedIn (pos 1) (pos 64) t → without_minus t ≡ t
 number_as_it_is t passed = plain_as_it_is t (no_minus t passed)

@@ -6,6 +6,7 @@ use Rattle.clap.proofs.CallerReads.{signed_reads}
 use Rattle.bt_words.specs.Match.{HasNumber}
 use Rattle.bt_words.specs.Request.{number_of}
 
+-- where a function of something gives something, there was something
 pub some_behind : {X Y : Type 0} (f : X → Y) (o : Option X) (p : Option Y) → option_map f o ≡ p → is_some p ≡ true → is_some o ≡ true
 some_behind f None p e some = let bad : is_some (option_map f None) ≡ true = ap is_some e ∙ some in cc
 some_behind f (Some x) p e some = refl

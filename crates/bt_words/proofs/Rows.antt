@@ -20,9 +20,11 @@ pub both_pass : (a b : Kinds) → or_else a b ≡ [] → (a ≡ []) × (b ≡ []
 both_pass [] b e = (refl, e)
 both_pass (k ∷ ks) b e = cc
 
+-- what is there is one
 pub some_injective : {X : Type 0} (x y : X) → Some x ≡ Some y → x ≡ y
 some_injective x y e = ap (λ o. unwrap_or o x) e
 
+-- each of a list has the property
 abbrev pub Each : {X : Type 0} → (X → Type 0) → List X → Type 0
 Each P [] = ⊤
 Each P (x ∷ xs) = P x × Each P xs
@@ -31,6 +33,7 @@ each_append : {X : Type 0} (P : X → Type 0) (xs ys : List X) → Each P xs →
 each_append P [] ys h k = k
 each_append P (x ∷ xs) ys h k = (h.0, each_append P xs ys h.1 k)
 
+-- what is found in a list has the property that each of it has
 pub each_found : {X : Type 0} (P : X → Type 0) (p : X → Bool) (xs : List X) (x : X) → Each P xs → find p xs ≡ Some x → P x
 each_found P p [] x h e = cc
 each_found P p (y ∷ ys) x h e = go (p y) e (each_found P p ys x h.1)
@@ -54,6 +57,7 @@ abbrev pub Fits : Rule → Row → Type 0
 Fits a r = (0 < length r.values) × (values_fault a r.values ≡ []) × (r.reading ≡ reading_by a)
 
 module _ (c : List Rule) where
+  -- a row whose values fit the rule that it is of
   abbrev pub IsFit : Row → Type 0
   IsFit r = (a : Rule) → arg_by_id c r.id ≡ Some a → Fits a r
 
@@ -62,7 +66,8 @@ module _ (c : List Rule) where
   IsPlainRule a = (arg_by_id c a.id ≡ Some a) × (0 < (unwrap_or_range a.range).start_inclusive) × (action_of a ≡ Set)
 
   at_row_fits : (id : Text) (change : Row → List Row) (missing rows : List Row)
-      → ((r : Row) → bytes_eq r.id id ≡ true → IsFit r → Each IsFit (change r)) → Each IsFit missing → Each IsFit rows → Each IsFit (at_row id change missing rows)
+      → ((r : Row) → bytes_eq r.id id ≡ true → IsFit r → Each IsFit (change r)) → Each IsFit missing → Each IsFit rows
+      → Each IsFit (at_row id change missing rows)
   at_row_fits id change missing [] changed new h = new
   at_row_fits id change missing (r ∷ rs) changed new h =
       go (bytes_eq r.id id) refl (at_row_fits id change missing rs changed new h.1)
@@ -84,9 +89,13 @@ module _ (c : List Rule) where
       → Each IsFit (more_values s values r)
   more_fits a s values r plain pass same fit =
       let id = (bytes_eq-Decides r.id a.id).0 same in
-      let old = fit_of a r plain id fit in
-      (row_fits a (record r { values = r.values ++ values; source = Some (stronger r.source s) }) plain id (longer r.values values old.0, values_append a.ignore_case (parser_of_value a.parser) r.values values old.1 pass, old.2), tt)
+      let old = fit_of a r plain id fit in (
+        row_fits a (record r { values = r.values ++ values; source = Some (stronger r.source s) }) plain id
+            (longer r.values values old.0, values_append a.ignore_case (parser_of_value a.parser) r.values values old.1 pass, old.2),
+        tt,
+      )
 
+  -- rows stay fit where values without a fault are put down
   pub with_values_fit : (a : Rule) (s : ValueSource) (v : Text) (vs : List Text) (rows : List Row) → IsPlainRule a → values_fault a (v ∷ vs) ≡ []
       → Each IsFit rows → Each IsFit (with_values a.id (reading_by a) s (v ∷ vs) rows)
   with_values_fit a s v vs rows plain pass h =

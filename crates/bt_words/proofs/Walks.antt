@@ -1,14 +1,22 @@
 -- A walk over words without a fault keeps that the rows are fit, and so do the defaults after it.
-use Rattle.std.proofs.Common.{◌≡◌, ◌&&◌, ◌||◌, ℕ, Bool, cond, true, false, zero, suc, List, [], ◌∷◌, length, drop, Option, Some, None, refl, subst, is_some, arith, ne_eqb}
+use Rattle.std.proofs.Common.{◌≡◌, ◌&&◌, ◌||◌, ℕ, Bool, cond, true, false, zero, suc, List, [], ◌∷◌, length, drop, Option, Some, None, refl, subst}
+use Rattle.std.proofs.Common.{is_some, arith, ne_eqb}
 use Rattle.std.specs.Prelude.{encode_utf8, slice_get}
 use Rattle.std.specs.List.{fold}
 use Rattle.std.specs.Option.{option_map_or}
 use Rattle.std.specs.Str.{bytes_eq, chars}
 use Rattle.clap.specs.Lexer.{long_of, short_of}
 use Rattle.clap.specs.Kinds.{Kinds, or_else, request_kinds}
-use Rattle.clap.specs.Faults.{bundle_fault, bundle_step_fault, check_fault, default_fault, defaults_fault, flag_word_fault, flags_fault, given_default_fault, level_fault, long_fault, option_fault, other_fault, positional_fault, react_fault, settle_fault, short_fault, step_fault, stray_fault, turn_fault, use_fault, walk_fault, word_fault}
+use Rattle.clap.specs.Faults.{bundle_fault, bundle_step_fault, check_fault, default_fault, defaults_fault, flag_word_fault, flags_fault}
+use Rattle.clap.specs.Faults.{given_default_fault, level_fault, long_fault, option_fault, other_fault, positional_fault, react_fault, settle_fault}
+use Rattle.clap.specs.Faults.{short_fault, step_fault, stray_fault, turn_fault, use_fault, walk_fault, word_fault}
 use Rattle.clap.specs.Simple.{Shape}
-use Rattle.clap.specs.Walk.{Held, Names, Outcome, Row, Rule, Step, Text, Waiting, Walk, action_of, done, waits, plain, refused, idle, option, positional, next, trailing, subcommand, value, after_flag, after_step, arg_by_id, arg_by_index, arg_by_long, arg_by_short, attached_value, bundle, bundle_met, bundle_step, default_rows, flag_met, has_row, is_empty, is_pending, long_met, long_or_other, nothing_held, option_met, option_word, plain_word, positional_held, reacted, reading_by, rows_after, settled, settled_rows, short_met, short_or_plain, subcommand_met, subcommand_or_other, takes_several, takes_values, to_positional, used_by_id, walk, walk_from, walked, walked_from, with_default, word_met}
+use Rattle.clap.specs.Walk.{Held, Names, Outcome, Row, Rule, Step, Text, Waiting, Walk, action_of, done, waits, plain, refused, idle, option}
+use Rattle.clap.specs.Walk.{positional, next, trailing, subcommand, value, after_flag, after_step, arg_by_id, arg_by_index, arg_by_long, arg_by_short}
+use Rattle.clap.specs.Walk.{attached_value, bundle, bundle_met, bundle_step, default_rows, flag_met, has_row, is_empty, is_pending, long_met}
+use Rattle.clap.specs.Walk.{long_or_other, nothing_held, option_met, option_word, plain_word, positional_held, reacted, reading_by, rows_after}
+use Rattle.clap.specs.Walk.{settled, settled_rows, short_met, short_or_plain, subcommand_met, subcommand_or_other, takes_several, takes_values}
+use Rattle.clap.specs.Walk.{to_positional, used_by_id, walk, walk_from, walked, walked_from, with_default, word_met}
 use Rattle.clap.specs.declared.error.ErrorKind.TheVariants as kind
 use Rattle.clap.specs.declared.parser.matches.ValueSource.TheVariants.{DefaultValue}
 use Rattle.bt_words.proofs.Rows.{Each, IsFit, IsPlainRule, both_pass, each_found, use_fits, with_values_fit}
@@ -28,7 +36,8 @@ module _ (c : List Rule) (again : Bool) (plain_rules : Each (IsPlainRule c) c) w
       → option_map_or (λ p. option_map_or (λ a. use_fault again a p.1 rows) (arg_by_id c p.0) []) pending [] ≡ []
       → Each (IsFit c) rows → Each (IsFit c) (settled_rows c pending rows)
   settled_rows_fit None rows e h = h
-  settled_rows_fit (Some p) rows e h = settled_by (arg_by_id c p.0) p.1 rows (λ a is. each_found (IsPlainRule c) (λ a. bytes_eq a.id p.0) c a plain_rules is) e h
+  settled_rows_fit (Some p) rows e h = settled_by (arg_by_id c p.0) p.1 rows
+      (λ a is. each_found (IsPlainRule c) (λ a. bytes_eq a.id p.0) c a plain_rules is) e h
 
   settled_fit : (h : Held) → settle_fault c again h ≡ [] → AreFit h → AreFit (settled c h)
   settled_fit h e fit = settled_rows_fit h.pending h.rows e fit
@@ -59,7 +68,8 @@ module _ (c : List Rule) (again : Bool) (plain_rules : Each (IsPlainRule c) c) w
       go true e = option_fit a v h (one a refl) e fit
       go false e = flag_fit a v h (one a refl) e fit
 
-  short_fit : (found : Option Rule) (rest : Text) (h : Held) (step : Held → Held × Outcome) (faults : Held → Kinds) → ((a : Rule) → found ≡ Some a → IsPlainRule c a)
+  short_fit : (found : Option Rule) (rest : Text) (h : Held) (step : Held → Held × Outcome) (faults : Held → Kinds)
+      → ((a : Rule) → found ≡ Some a → IsPlainRule c a)
       → ((k : Held) → faults k ≡ [] → AreFit k → AreFit (step k).0) → short_fault c again found rest h faults ≡ [] → AreFit h
       → AreFit (short_met c found rest h step).0
   short_fit None rest h step faults one after e fit = fit
@@ -78,7 +88,8 @@ module _ (c : List Rule) (again : Bool) (plain_rules : Each (IsPlainRule c) c) w
   bundle_step_fit None flags skip so_far h step faults after e fit = fit
   bundle_step_fit (Some x) flags zero so_far h step faults after e fit =
       let rest = drop (length (encode_utf8 x)) flags in
-      short_fit (arg_by_short c x) rest h (step rest 0 done) (faults rest 0) (λ a is. each_found (IsPlainRule c) _ c a plain_rules is) (λ k. after rest 0 done k) e fit
+      short_fit (arg_by_short c x) rest h (step rest 0 done) (faults rest 0) (λ a is. each_found (IsPlainRule c) _ c a plain_rules is)
+      (λ k. after rest 0 done k) e fit
   bundle_step_fit (Some x) flags (suc skip) so_far h step faults after e fit = after (drop (length (encode_utf8 x)) flags) skip so_far h e fit
 
   bundle_fit : (k : ℕ) (flags : Text) (skip : ℕ) (so_far : Outcome) (h : Held) → flags_fault c again k flags skip h ≡ [] → AreFit h
@@ -138,7 +149,8 @@ module _ (c : List Rule) (again : Bool) (plain_rules : Each (IsPlainRule c) c) w
       go true e = fit
       go false e = settled_fit h e fit
 
-  to_positional_fit : (found : Option Rule) (word : Text) (w : Walk) (h : Held) (stray : Kinds) → option_map_or (λ a. positional_fault c again a h) found stray ≡ []
+  to_positional_fit : (found : Option Rule) (word : Text) (w : Walk) (h : Held) (stray : Kinds)
+      → option_map_or (λ a. positional_fault c again a h) found stray ≡ []
       → AreFit h → AreFit (to_positional c found word w h).held
   to_positional_fit None word w h stray e fit = fit
   to_positional_fit (Some a) word w h stray e fit = positional_fit a word h e fit
@@ -164,13 +176,15 @@ module _ (s : Shape) (plain_rules : Each (IsPlainRule s.rules) s.rules) where
   step_fit w word h (subcommand name) e fit = fit
   step_fit w word h value e fit = to_positional_fit s.rules s.args_override_self plain_rules (arg_by_index s.rules w.position) word w h (stray_fault s) e fit
 
-  turn_fit : (names : Names) (w : Walk) (word : Text) → turn_fault s names w word ≡ [] → AreFitRows w.held.rows → AreFitRows (walked s.rules names w word).held.rows
+  turn_fit : (names : Names) (w : Walk) (word : Text) → turn_fault s names w word ≡ [] → AreFitRows w.held.rows
+      → AreFitRows (walked s.rules names w word).held.rows
   unfolding walked
   turn_fit names w word e fit = go w.stopped e
     where
       go : (o : Option (Text × List Text))
           → cond (is_some o) [] (or_else (word_fault s names w.is_trailing w.waiting word w.held)
-          (step_fault s w.position (word_met s.rules names w.is_trailing w.waiting w.position word w.held).0 (word_met s.rules names w.is_trailing w.waiting w.position word w.held).1)) ≡ []
+          (step_fault s w.position (word_met s.rules names w.is_trailing w.waiting w.position word w.held).0
+          (word_met s.rules names w.is_trailing w.waiting w.position word w.held).1)) ≡ []
           → AreFitRows (walked_from s.rules names o w word).held.rows
       go (Some p) e = fit
       go None e =

@@ -1,11 +1,12 @@
 -- The words of a context tell the context.
-use Rattle.std.proofs.Common.{◌≡◌, ℕ, ◌+◌, ◌-◌, ◌≤◌, Bool, true, false, List, [], ◌∷◌, ◌++◌, length, suc, refl, ap, sym, ◌∙◌, arith, get_or, codes, pos, negsuc, if◌then◌else◌}
+use Rattle.std.proofs.Common.{◌≡◌, ℕ, ◌+◌, ◌-◌, ◌≤◌, Bool, true, false, List, [], ◌∷◌, ◌++◌, length, suc, refl, ap, sym, ◌∙◌, arith, get_or, codes}
+use Rattle.std.proofs.Common.{pos, negsuc, if◌then◌else◌}
 use Rattle.std.proofs.lemmas.Bool.{and_parts, false≢true}
 use Rattle.std.proofs.lemmas.Bool.Decides.{Decides-int_eq}
 use Rattle.std.proofs.lemmas.List.{append_cancel_left}
 use Rattle.std.proofs.lemmas.List.Elements.{All-head, All-tail}
 use Rattle.std.specs.Ordering.{int_eq}
-use Rattle.std.specs.Prelude.{◌==◌, ◌&&◌, All, Option, Some, None}
+use Rattle.std.specs.Prelude.{◌==◌, All, Option, Some, None}
 use Rattle.value_lattice.specs.Value.{IsValue}
 use Rattle.value_lattice.specs.declared.value.Value.{Value}
 use Rattle.value_lattice.specs.declared.value.Value.TheVariants.{Words, Range, Ret}
@@ -180,10 +181,12 @@ context_words_tell (With vs) (With ws) t u at_a at_b long also first second same
     let both : (vs ≡ ws) × (t ≡ u) = rests_tell vs ws t u at_a at_b long also first.is second.is (ap words_behind same) in
     (ap With both.0, both.1)
 
+-- the word `any` is no argument
 pub no_argument_any : NoArgument (codes "any" ∷ [])
 unfolding first_word rank
 no_argument_any = record { is = omega arith }
 
+-- the words of a bound are no argument
 pub no_argument_bound : (bound : Option ℕ) → NoArgument (bound_words bound)
 unfolding first_word rank
 no_argument_bound None = record { is = omega arith }

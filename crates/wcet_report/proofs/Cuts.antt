@@ -12,10 +12,12 @@ lacks stops (b ∷ bs) = not (stops b) && lacks stops bs
 pub record Lacks (stops : ℕ → Bool) (text : List ℕ) : Type 0 where
   pub is : lacks stops text ≡ true
 
+-- the first byte, or 0 where there is none
 unfoldable pub first_byte : List ℕ → ℕ
 first_byte [] = 0
 first_byte (b ∷ bs) = b
 
+-- the bytes behind the first
 unfoldable pub bytes_behind : List ℕ → List ℕ
 bytes_behind [] = []
 bytes_behind (b ∷ bs) = bs

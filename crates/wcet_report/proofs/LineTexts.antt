@@ -23,6 +23,7 @@ pub record Words : Type 0 where
   pub first : List ℕ
   pub rest : List (List ℕ)
 
+-- the text of words
 abbrev pub words_text : Words → List ℕ
 words_text line = line_of line.first line.rest
 
@@ -47,15 +48,19 @@ line_is first rest text =
     append_assoc first (spaced rest ++ codes "\n") text
     ∙ ap (λ more. first ++ more) (append_assoc (spaced rest) (codes "\n") text ∙ behind_is rest text)
 
+-- the first of such words is one
 pub word_clean : (word : List ℕ) (words : List (List ℕ)) → AreClean (word ∷ words) → Lacks ends_word word
 word_clean word words clean = record { is = (and_parts (lacks ends_word word) (are_clean words) clean.is).0 }
 
+-- the others of such words are such words
 pub words_clean : (word : List ℕ) (words : List (List ℕ)) → AreClean (word ∷ words) → AreClean words
 words_clean word words clean = record { is = (and_parts (lacks ends_word word) (are_clean words) clean.is).1 }
 
+-- a word that ends nowhere inside, before others, is one of such words
 pub clean-cons : (word : List ℕ) (words : List (List ℕ)) → Lacks ends_word word → AreClean words → AreClean (word ∷ words)
 clean-cons word words one all = record { is = and_from (lacks ends_word word) (are_clean words) one.is all.is }
 
+-- two lists of such words are one
 pub clean-append : (xs ys : List (List ℕ)) → AreClean xs → AreClean ys → AreClean (xs ++ ys)
 clean-append [] ys one other = other
 clean-append (x ∷ xs) ys one other =
@@ -94,6 +99,7 @@ line_tells one other t u clean also same =
     (sym (line_is one.first one.rest t) ∙ same ∙ line_is other.first other.rest u) in
     (λ i. record { first = cut.0 i; rest = cut.1 i }, cut.2)
 
+-- the text of lines
 abbrev pub lines_text : List Words → List ℕ
 lines_text lines = flat_map words_text lines
 

@@ -1,13 +1,13 @@
 -- The words of the lines of a report have neither a space nor the end of a line in them, and tell what they are of.
-use Rattle.std.proofs.Common.{◌≡◌, ℕ, ◌+◌, ◌-◌, ◌*◌, ◌/◌, ◌%◌, ◌^◌, ◌<◌, ◌≤◌, Bool, true, false, List, [], ◌∷◌, ◌++◌, drop, length, suc, refl, ap, sym, ◌∙◌, subst, arith, get_or, codes, if◌then◌else◌}
-use Rattle.std.proofs.lemmas.Bool.{and_parts, ltb-true}
+use Rattle.std.proofs.Common.{◌≡◌, ℕ, ◌+◌, ◌-◌, ◌*◌, ◌/◌, ◌%◌, ◌^◌, ◌<◌, ◌≤◌, Bool, true, false, List, [], ◌∷◌, ◌++◌, drop, length, suc, refl, ap}
+use Rattle.std.proofs.Common.{arith, get_or, codes, if◌then◌else◌}
+use Rattle.std.proofs.lemmas.Bool.{and_parts}
 use Rattle.std.proofs.lemmas.Bool.Decides.{nat_tests}
 use Rattle.std.proofs.lemmas.Fmt.{decimal_injective, signed_decimal_injective}
-use Rattle.std.proofs.lemmas.List.{append_cancel_left}
 use Rattle.std.specs.Fmt.{signed_decimal}
 use Rattle.std.specs.Int.{w32, w64}
 use Rattle.std.specs.Int.Signed.{mag}
-use Rattle.std.specs.Prelude.{◌==◌, ◌&&◌, ◌||◌, not, ℤ, All, FitsSigned, IfSome, Option, Some, None, decimal, nat_le, nat_lt}
+use Rattle.std.specs.Prelude.{◌==◌, ◌&&◌, not, ℤ, All, FitsSigned, IfSome, Option, Some, None, decimal, nat_le, nat_lt}
 use Rattle.abs_state.specs.declared.key.Place.{Place}
 use Rattle.bt_base.specs.Text.{hex_digit, hex8_of}
 use Rattle.bt_image.specs.Symbol.{name_of}
@@ -81,6 +81,7 @@ name_free : (name : Option (List ℕ)) → Lacks ends_word (shown_name name)
 name_free None = record { is = refl }
 name_free (Some name) = shown_free name
 
+-- an address and its name are two words
 pub function_clean : (image : List ℕ) (entry : ℕ) → AreClean (function_words image entry)
 unfolding function_words
 function_clean image entry =
@@ -106,10 +107,12 @@ function_tells image a b t u a_less b_less same =
 
 -- bounds
 
+-- a bound is a list of words
 pub bound_clean : (bound : Option ℕ) → IfSome bound (λ n. n < 2 ^ 64) → AreClean (bound_words bound)
 bound_clean None small = one_clean (codes "unbounded") (record { is = refl })
 bound_clean (Some n) small = two_clean (codes "bounded") (decimal n) (record { is = refl }) (lacks_decimal ends_word word_free n small)
 
+-- the words of a bound tell it
 pub bound_tells : (a b : Option ℕ) → IfSome a (λ n. n < 2 ^ 64) → IfSome b (λ n. n < 2 ^ 64) → bound_words a ≡ bound_words b → a ≡ b
 unfolding first_of
 bound_tells None None small also same = refl
@@ -180,6 +183,7 @@ values_from : (vs : List Value) → All IsValue vs → AreValues vs
 values_from [] all = tt
 values_from (v ∷ vs) all = (all 0 v (omega arith), values_from vs (λ k d less. all (suc k) d (omega (arith, less))))
 
+-- what is known of arguments is a list of words
 pub context_clean : (context : Context) → ContextInRange context → AreClean (context_word context ∷ context_rest context)
 context_clean Plain at = one_clean (codes "plain") (record { is = refl })
 context_clean (With args) at =
@@ -211,6 +215,7 @@ cell_free c =
 signed_clean : (z : ℤ) → mag z < 2 ^ 63 → Lacks ends_word (signed_decimal z)
 signed_clean z small = lacks_signed ends_word word_free z small
 
+-- what bounds a loop is a list of words
 pub by_clean : (by : By) → ByInRange by → AreClean (by_words by)
 by_clean (Counter b) at =
     clean-cons (codes "at") _ (record { is = refl })
@@ -252,6 +257,7 @@ by_tells Nothing (Counter b) at_a at_b same = let wrong : 1 ≡ 11 = ap length s
 by_tells Nothing (Asserted n) at_a at_b same = let wrong : 1 ≡ 5 = ap length same in absurd (omega (arith, wrong))
 by_tells Nothing Nothing at_a at_b same = refl
 
+-- the text of a program point is one word
 pub node_clean : (sub : ℕ) (place : Place) → IsPointOf sub place → Lacks ends_word (node_text place)
 node_clean sub place point = lacks_node ends_word point_free sub place point
 
@@ -260,6 +266,7 @@ node_clean sub place point = lacks_node ends_word point_free sub place point
 hex8_clean : (word : List ℕ) (v : ℕ) → Lacks ends_word word → AreClean (word ∷ hex8_of v ∷ [])
 hex8_clean word v free = two_clean word (hex8_of v) free (lacks_hex8 ends_word word_free v)
 
+-- a reason is a list of words
 pub reason_clean : (image : List ℕ) (sub : ℕ) (reason : Reason) → IsReasonOf sub reason → AreClean (reason_words image reason)
 reason_clean image sub (Jump pc) at = hex8_clean (codes "jump") pc (record { is = refl })
 reason_clean image sub (Call pc) at = hex8_clean (codes "call") pc (record { is = refl })

@@ -44,9 +44,11 @@ pub record NoDigit (stops : ℕ → Bool) : Type 0 where
   pub hexadecimal : (d : ℕ) → d < 16 → stops (hex_digit d) ≡ false
   pub sign : stops 45 ≡ false
 
+-- a byte that ends no word before others
 pub lacks_one : (stops : ℕ → Bool) (b : ℕ) (bs : List ℕ) → stops b ≡ false → Lacks stops bs → Lacks stops (b ∷ bs)
 lacks_one stops b bs at rest = record { is = grind (arith, at, rest.is) }
 
+-- a decimal number has nothing that ends a word
 pub lacks_decimal : (stops : ℕ → Bool) → NoDigit stops → (n : ℕ) → n < 2 ^ 64 → Lacks stops (decimal n)
 lacks_decimal stops no_digit n small = decimal_by_steps (λ _ ds. Lacks stops ds)
     (λ m less. lacks_one stops (48 + m) [] (no_digit.decimal m less) (record { is = refl }))
@@ -54,11 +56,13 @@ lacks_decimal stops no_digit n small = decimal_by_steps (λ _ ds. Lacks stops ds
     (lacks_one stops (48 + m % 10) [] (no_digit.decimal (m % 10) (omega arith)) (record { is = refl })))
     n small
 
+-- a number with sign has nothing that ends a word
 pub lacks_signed : (stops : ℕ → Bool) → NoDigit stops → (z : ℤ) → mag z < 2 ^ 63 → Lacks stops (signed_decimal z)
 lacks_signed stops no_digit (pos n) small = lacks_decimal stops no_digit n (omega (arith, small))
 lacks_signed stops no_digit (negsuc n) small =
     lacks_one stops 45 (decimal (suc n)) no_digit.sign (lacks_decimal stops no_digit (suc n) (omega (arith, small)))
 
+-- eight hexadecimal digits have nothing that ends a word
 pub lacks_hex8 : (stops : ℕ → Bool) → NoDigit stops → (v : ℕ) → Lacks stops (hex8_of v)
 lacks_hex8 stops no_digit v =
     let each : (n : ℕ) (rest : List ℕ) → Lacks stops rest → Lacks stops (hex_digit (n % 16) ∷ rest) =

@@ -1,5 +1,6 @@
 -- Texts of program points and cells tell what they are of, and have no byte but their own.
-use Rattle.std.proofs.Common.{◌≡◌, ℕ, ◌+◌, ◌-◌, ◌/◌, ◌%◌, ◌^◌, ◌<◌, ◌≤◌, Bool, true, false, List, [], ◌∷◌, ◌++◌, refl, ap, sym, ◌∙◌, subst, arith, get_or, codes, if◌then◌else◌}
+use Rattle.std.proofs.Common.{◌≡◌, ℕ, ◌+◌, ◌-◌, ◌/◌, ◌%◌, ◌^◌, ◌<◌, ◌≤◌, Bool, true, false, List, [], ◌∷◌, ◌++◌, refl, ap, sym, ◌∙◌, subst, arith}
+use Rattle.std.proofs.Common.{get_or, codes, if◌then◌else◌}
 use Rattle.std.proofs.lemmas.Bool.{eqb-true, ltb-true, ltb-false}
 use Rattle.std.proofs.lemmas.Bool.Decides.{nat_tests}
 use Rattle.std.proofs.lemmas.Fmt.{decimal_injective}
@@ -81,6 +82,7 @@ pub record NoPoint (stops : ℕ → Bool) : Type 0 where
   pub angle : Lacks stops (codes ">")
   pub slash : Lacks stops (codes "/")
 
+-- the one or the other has nothing that ends a word
 pub lacks_either : (stops : ℕ → Bool) (b : Bool) (xs ys : List ℕ) → Lacks stops xs → Lacks stops ys → Lacks stops (if b then xs else ys)
 lacks_either stops true xs ys one other = one
 lacks_either stops false xs ys one other = other

@@ -26,7 +26,8 @@ pub ranks_more : (list : List Outcome) (i : ℕ) (ranks : List Rank) (rank : Ran
 ranks_more list i ranks rank some one = record {
   long = grind (arith, common_steps, some.long);
   each = λ k d e less. elim (cases_lt k i) [
-    | inl before ↦ subst (λ r. IsRankOf (slice_index_or list k d) k r) (sym (get_or_append_left ranks (rank ∷ []) e k (omega (arith, before, some.long)))) (some.each k d e before)
+    | inl before ↦ subst (λ r. IsRankOf (slice_index_or list k d) k r)
+        (sym (get_or_append_left ranks (rank ∷ []) e k (omega (arith, before, some.long)))) (some.each k d e before)
     | inr after ↦
         let at : k ≡ i = omega (arith, less, after) in
         let last : get_or (ranks ++ rank ∷ []) k e ≡ rank = grind (arith, common_steps, at, some.long) in

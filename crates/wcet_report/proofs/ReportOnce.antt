@@ -1,5 +1,5 @@
 -- Outcomes have one report.
-use Rattle.std.proofs.Common.{◌≡◌, ℕ, ◌<◌, List, [], ◌∷◌, ◌++◌, length, refl, ap, sym, ◌∙◌, subst, arith, append_assoc, codes, get_or}
+use Rattle.std.proofs.Common.{◌≡◌, ℕ, List, [], ◌∷◌, ◌++◌, refl, ap, sym, ◌∙◌, subst, append_assoc, codes}
 use Rattle.std.specs.Cmp.{IsTotalOrder, on_total, then_total, nat_cmp_total}
 use Rattle.std.specs.Cmp.Lexicographic.{slice_cmp, on_texts}
 use Rattle.std.specs.FinMap.{nat_cmp-IsAntisymmetric, slice_cmp-IsAntisymmetric}
@@ -8,15 +8,13 @@ use Rattle.std.specs.Ordering.{nat_cmp, ordering_then}
 use Rattle.std.specs.Prelude.{All, Contains}
 use Rattle.std.specs.declared.cmp.Ordering.{Ordering}
 use Rattle.std.specs.declared.cmp.Ordering.TheVariants.{Less, Equal, Greater}
-use Rattle.std.proofs.lemmas.List.Elements.{All-head, All-tail}
+use Rattle.std.proofs.lemmas.List.Elements.{All-head, All-tail, All-weaker}
 use Rattle.std.proofs.lemmas.List.Sorted.{All-permutation}
 use Rattle.abs_state.proofs.KeyLemmas.{keys_are_ordered}
-use Rattle.abs_state.specs.Key.{compare}
-use Rattle.abs_state.specs.declared.key.Key.{Key}
 use Rattle.abs_state.specs.declared.key.Key.TheVariants.{Node}
 use Rattle.abs_state.specs.declared.key.Place.{Place}
 use Rattle.wcet_report.proofs.ContextTexts.{context_words_tell, no_argument_any}
-use Rattle.wcet_report.proofs.LineTexts.{Words, words_text, IsClean, line_tells, word_clean, words_clean}
+use Rattle.wcet_report.proofs.LineTexts.{Words, IsClean, line_tells, word_clean, words_clean}
 use Rattle.wcet_report.proofs.LineWords.{context_clean}
 use Rattle.wcet_report.proofs.Sortings.{sorted_once, alike_once}
 use Rattle.wcet_report.specs.Context.{HasArguments, context_text, context_word, context_rest}
@@ -105,9 +103,10 @@ of_member : {X : Type 0} (P : X → Type 0) (xs : List X) (x : X) → All P xs �
 of_member P xs x all (k, less, is) = subst P is (all k x less)
 
 -- outcomes of a list whose contexts are apart are one where they tie
-outcome_exact : (list : List Outcome) → AreApart (λ a b. (a.sub ≡ b.sub) × (a.context ≡ b.context)) list → All IsProper list
-    → All (λ outcome. HasArguments outcome.context) list → (a b : Outcome) → Contains list a → Contains list b → outcome_cmp a b ≡ Equal → a ≡ b
-outcome_exact list apart proper long a b has_a has_b tie =
+outcome_exact : (list : List Outcome) → AreApart (λ a b. (a.sub ≡ b.sub) × (a.context ≡ b.context)) list
+    → All (λ outcome. ContextInRange outcome.context) list → All (λ outcome. HasArguments outcome.context) list
+    → (a b : Outcome) → Contains list a → Contains list b → outcome_cmp a b ≡ Equal → a ≡ b
+outcome_exact list apart range long a b has_a has_b tie =
     let first : (nat_cmp a.sub b.sub ≡ Equal)
     × (ordering_then (nat_cmp (known_rank a.context) (known_rank b.context)) (slice_cmp nat_cmp (context_text a.context) (context_text b.context)) ≡ Equal) =
     both (nat_cmp a.sub b.sub)
@@ -116,19 +115,29 @@ outcome_exact list apart proper long a b has_a has_b tie =
     (both (nat_cmp (known_rank a.context) (known_rank b.context)) (slice_cmp nat_cmp (context_text a.context) (context_text b.context)) first.1).1 in
     let subs : a.sub ≡ b.sub = nat_cmp-IsAntisymmetric a.sub b.sub first.0 in
     let contexts : a.context ≡ b.context =
-    context_text_tells a.context b.context (of_member IsProper list a proper has_a).context (of_member IsProper list b proper has_b).context
+    context_text_tells a.context b.context (of_member (λ outcome. ContextInRange outcome.context) list a range has_a)
+    (of_member (λ outcome. ContextInRange outcome.context) list b range has_b)
     (of_member (λ outcome. HasArguments outcome.context) list a long has_a)
     (of_member (λ outcome. HasArguments outcome.context) list b long has_b)
     (slice_cmp-IsAntisymmetric nat_cmp-IsAntisymmetric (context_text a.context) (context_text b.context) texts) in
     alike_once (λ a b. (a.sub ≡ b.sub) × (a.context ≡ b.context)) list apart (λ a b same. (sym same.0, sym same.1)) a b has_a has_b (subs, contexts)
 
+-- contexts of a list that are apart have one order
+ordered_once : (list one other : List Outcome) → AreApart (λ a b. (a.sub ≡ b.sub) × (a.context ≡ b.context)) list
+    → All (λ outcome. ContextInRange outcome.context) list → All (λ outcome. HasArguments outcome.context) list → AreOrdered list one → AreOrdered list other
+    → one ≡ other
+ordered_once list one other apart range long order also =
+    sorted_once outcome_cmp outcome_total list one other (outcome_exact list apart range long) order.same also.same order.rise also.rise
+
+-- the contexts of proper outcomes have their values in range
+in_range : (list : List Outcome) → All IsProper list → All (λ outcome. ContextInRange outcome.context) list
+in_range list proper = All-weaker IsProper (λ outcome. ContextInRange outcome.context) (λ outcome is. is.context) list proper
+
 -- proper outcomes have one order
 pub order_once : (outcomes : Outcomes) (one other : List Outcome) → AreProper outcomes → AreOrdered outcomes.list one
     → AreOrdered outcomes.list other → one ≡ other
 order_once outcomes one other proper order also =
-    sorted_once outcome_cmp outcome_total outcomes.list one other
-    (outcome_exact outcomes.list proper.reportable.apart proper.each proper.reportable.arguments)
-    order.same also.same order.rise also.rise
+    ordered_once outcomes.list one other proper.reportable.apart (in_range outcomes.list proper.each) proper.reportable.arguments order also
 
 -- whole reports
 
@@ -154,15 +163,25 @@ parts_once image (o ∷ os) (p ∷ ps) (q ∷ qs) apart each also =
     parts_once image os ps qs (All-tail (λ outcome. AreApart (λ a b. a.head ≡ b.head) outcome.loops) o os apart) each.1 also.1 in
     cc (one, rest)
 
-pub report_is_one : ReportIsOne
-report_is_one image outcomes one other proper report also =
-    let order : report.ordered ≡ also.ordered = order_once outcomes report.ordered also.ordered proper report.order also.order in
-    let apart : All (λ outcome. AreApart (λ a b. a.head ≡ b.head) outcome.loops) also.ordered =
-    All-permutation (λ outcome. AreApart (λ a b. a.head ≡ b.head) outcome.loops) outcomes.list also.ordered also.order.same proper.reportable.heads in
+-- outcomes that are told apart have at most one report
+pub report_once : (image : List ℕ) (outcomes : Outcomes) (one other : List ℕ) → AreApart (λ a b. (a.sub ≡ b.sub) × (a.context ≡ b.context)) outcomes.list
+    → All (λ outcome. AreApart (λ a b. a.head ≡ b.head) outcome.loops) outcomes.list → All (λ outcome. ContextInRange outcome.context) outcomes.list
+    → All (λ outcome. HasArguments outcome.context) outcomes.list → IsReport image outcomes one → IsReport image outcomes other → one ≡ other
+report_once image outcomes one other apart heads range long report also =
+    let order : report.ordered ≡ also.ordered =
+    ordered_once outcomes.list report.ordered also.ordered apart range long report.order also.order in
+    let of_each : All (λ outcome. AreApart (λ a b. a.head ≡ b.head) outcome.loops) also.ordered =
+    All-permutation (λ outcome. AreApart (λ a b. a.head ≡ b.head) outcome.loops) outcomes.list also.ordered also.order.same heads in
     let parts : report.parts ≡ also.parts =
-    parts_once image also.ordered report.parts also.parts apart
+    parts_once image also.ordered report.parts also.parts of_each
     (subst (λ list. AllZip (AreLines image) list report.parts) order report.each) also.each in
     report.is
     ∙ ap (λ list. codes "boundt report 1\n" ++ (flat_map (root_line image outcomes.list) outcomes.roots
     ++ (flat_map (λ part. part) list ++ codes "end\n"))) parts
     ∙ sym also.is
+
+-- so proper outcomes have
+pub report_is_one : ReportIsOne
+report_is_one image outcomes one other proper report also =
+    report_once image outcomes one other proper.reportable.apart proper.reportable.heads (in_range outcomes.list proper.each)
+    proper.reportable.arguments report also

@@ -33,6 +33,7 @@ abbrev pub Each : {X : Type 0} → (X → Type 0) → List X → Type 0
 Each P [] = Unit {0}
 Each P (x ∷ xs) = P x × Each P xs
 
+-- what holds of all holds of each
 pub each_of_all : {X : Type 0} (P : X → Type 0) (xs : List X) → All P xs → Each P xs
 each_of_all P [] all = tt
 each_of_all P (x ∷ xs) all = (All-head P x xs all, each_of_all P xs (All-tail P x xs all))
@@ -49,7 +50,8 @@ sorted_rest R x xs sorted = λ k d low less.
 rises_from : {X : Type 0} (R : X → X → Ordering) → IsTotalOrder R → (xs : List X) → IsSorted R xs → Rises R xs
 rises_from R o [] sorted = tt
 rises_from {X} R o (x ∷ xs) sorted = (
-  least_at R x xs (λ k d less. sorted_far (λ (a b : X). is_lt (R a b)) (ranks_by o (λ (a : X). a)) (x ∷ xs) sorted 0 (suc k) d (omega arith) (omega (arith, less))),
+  least_at R x xs (λ k d less. sorted_far (λ (a b : X). is_lt (R a b)) (ranks_by o (λ (a : X). a)) (x ∷ xs) sorted 0 (suc k) d (omega arith)
+      (omega (arith, less))),
   rises_from R o xs (sorted_rest R x xs sorted),
 )
 

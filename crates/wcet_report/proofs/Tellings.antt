@@ -1,24 +1,24 @@
 -- A report tells the outcomes that it is of.
-use Rattle.std.proofs.Common.{◌≡◌, ℕ, ◌+◌, ◌*◌, ◌^◌, ◌<◌, Bool, true, false, List, [], ◌∷◌, ◌++◌, map, get_or, refl, ap, sym, ◌∙◌, subst, arith, append_assoc, codes, if◌then◌else◌}
+use Rattle.std.proofs.Common.{◌≡◌, ℕ, ◌+◌, ◌*◌, ◌^◌, ◌<◌, Bool, true, false, List, [], ◌∷◌, ◌++◌, map, get_or, refl, ap, sym, ◌∙◌, subst, arith}
+use Rattle.std.proofs.Common.{append_assoc, codes, if◌then◌else◌}
 use Rattle.std.specs.List.{flat_map, AllZip}
-use Rattle.std.specs.Prelude.{◌&&◌, ◌==◌, All, IfSome, Option, Some, None}
+use Rattle.std.specs.Prelude.{◌&&◌, ◌==◌, All, IfSome, Option, Some}
 use Rattle.std.proofs.lemmas.List.Concat.{flat_map-append}
-use Rattle.std.proofs.lemmas.List.Elements.{All-head, All-tail}
 use Rattle.std.proofs.lemmas.List.Sorted.{All-permutation}
 use Rattle.wcet_report.proofs.ContextTexts.{context_words_tell, no_argument_bound}
-use Rattle.wcet_report.proofs.Cuts.{Lacks}
-use Rattle.wcet_report.proofs.LineTexts.{Words, words_text, IsClean, AllClean, AreClean, lines_text, lines_tell, clean-cons, clean-append, word_clean, words_clean}
-use Rattle.wcet_report.proofs.LineWords.{function_clean, function_tells, bound_clean, bound_tells, context_clean, by_clean, by_tells, node_clean, reason_clean, reason_tells}
+use Rattle.wcet_report.proofs.LineTexts.{Words, words_text, IsClean, AllClean, AreClean, lines_text, lines_tell, clean-cons, clean-append, word_clean}
+use Rattle.wcet_report.proofs.LineTexts.{words_clean}
+use Rattle.wcet_report.proofs.LineWords.{function_clean, function_tells, bound_clean, bound_tells, context_clean, by_clean, by_tells, node_clean}
+use Rattle.wcet_report.proofs.LineWords.{reason_clean, reason_tells}
 use Rattle.wcet_report.proofs.Points.{node_tells}
 use Rattle.wcet_report.proofs.Sortings.{Each, each_of_all}
 use Rattle.wcet_report.specs.Context.{HasArguments, context_word, context_rest, is_open}
-use Rattle.wcet_report.specs.Laws.{AreAlike, AreProper, AreSameOutcomes, ByInRange, IsPointOf, IsProper, IsReasonOf, ReportTells}
+use Rattle.wcet_report.specs.Laws.{AreAlike, AreProper, ByInRange, IsPointOf, IsProper, IsReasonOf, ReportTells}
 use Rattle.wcet_report.specs.Line.{line_of, function_words}
 use Rattle.wcet_report.specs.Node.{node_text}
 use Rattle.wcet_report.specs.Order.{AreByHead}
 use Rattle.wcet_report.specs.Outcome.{bound_words, by_words, reason_words, context_line, loop_line, reason_line}
 use Rattle.wcet_report.specs.Report.{AreLines, IsReport, flattened, open_bound, root_bound, root_line}
-use Rattle.wcet_report.specs.declared.context.Context.{Context}
 use Rattle.wcet_report.specs.declared.loops.LoopOutcome.{LoopOutcome}
 use Rattle.wcet_report.specs.declared.outcome.Outcome.{Outcome}
 use Rattle.wcet_report.specs.declared.outcome.Outcomes.{Outcomes}
@@ -327,6 +327,7 @@ report_clean image outcomes text proper report = (
       (all_clean image report.ordered report.parts report.each (good_ordered image outcomes text proper report)),
 )
 
+-- what a report is of can be read back from it: the roots, and each outcome
 pub report_tells : ReportTells
 unfolding report_lines lines_behind
 report_tells image one other text proper also report another =

@@ -1,12 +1,11 @@
 -- The lines of outcomes stand in their report.
-use Rattle.std.proofs.Common.{◌≡◌, ℕ, zero, suc, ◌+◌, ◌<◌, List, [], ◌∷◌, ◌++◌, length, refl, ap, sym, ◌∙◌, subst, arith, append_assoc, codes, get_or}
+use Rattle.std.proofs.Common.{ℕ, zero, suc, List, [], ◌∷◌, ◌++◌, refl, ap, sym, ◌∙◌, subst, arith, append_assoc, codes}
 use Rattle.std.specs.List.{flat_map, AllZip}
 use Rattle.std.specs.Prelude.{Contains}
 use Rattle.std.proofs.lemmas.List.Sorted.{Contains-permutation}
 use Rattle.wcet_report.specs.Laws.{HasWithin, ReportHasRoots, ReportHasEach, ReportHasLoops, ReportHasReasons}
 use Rattle.wcet_report.specs.Outcome.{context_line, loop_line, reason_line}
 use Rattle.wcet_report.specs.Report.{AreLines, IsReport, root_line}
-use Rattle.wcet_report.specs.declared.loops.LoopOutcome.{LoopOutcome}
 use Rattle.wcet_report.specs.declared.outcome.Outcome.{Outcome}
 use Rattle.wcet_report.specs.declared.outcome.Outcomes.{Outcomes}
 
@@ -24,6 +23,7 @@ longer part text front back has = record {
 in_front : (part text back : List ℕ) → HasWithin part text → HasWithin part (text ++ back)
 in_front part text back has = longer part text [] back has
 
+-- what stands in a text stands in it behind another
 pub behind : (part text front : List ℕ) → HasWithin part text → HasWithin part (front ++ text)
 behind part text front has = record {
   before = front ++ has.before;
@@ -31,6 +31,7 @@ behind part text front has = record {
   is = ap (λ t. front ++ t) has.is ∙ sym (append_assoc front has.before (part ++ has.after));
 }
 
+-- a text stands at the front of itself
 pub itself : (text back : List ℕ) → HasWithin text (text ++ back)
 itself text back = record { before = []; after = back; is = refl }
 
@@ -83,12 +84,14 @@ within_report image outcomes text outcome line report has of_lines =
     within_part {line} {part} {text} inner outer =
         subst (λ t. HasWithin line t) (sym outer.is) (longer line part outer.before outer.after inner)
 
+-- the line of the context of each outcome stands in the report
 pub report_has_each : ReportHasEach
 report_has_each image outcomes text outcome report has =
     within_report image outcomes text outcome (context_line image outcome) report has
     (λ part lines. subst (λ t. HasWithin (context_line image outcome) t) (sym lines.is)
     (itself (context_line image outcome) (flat_map loop_line lines.loops ++ flat_map (reason_line image) outcome.reasons)))
 
+-- the line of each loop of each outcome stands in the report
 pub report_has_loops : ReportHasLoops
 report_has_loops image outcomes text outcome each report has among =
     within_report image outcomes text outcome (loop_line each) report has
@@ -96,6 +99,7 @@ report_has_loops image outcomes text outcome each report has among =
     (longer (loop_line each) (flat_map loop_line lines.loops) (context_line image outcome) (flat_map (reason_line image) outcome.reasons)
     (in_list loop_line lines.loops each (Contains-permutation outcome.loops lines.loops each lines.by_head.same among))))
 
+-- the line of each reason of each outcome stands in the report
 pub report_has_reasons : ReportHasReasons
 report_has_reasons image outcomes text outcome reason report has among =
     within_report image outcomes text outcome (reason_line image reason) report has
@@ -104,6 +108,7 @@ report_has_reasons image outcomes text outcome reason report has among =
     (behind (reason_line image reason) (flat_map (reason_line image) outcome.reasons) (flat_map loop_line lines.loops)
     (in_list (reason_line image) outcome.reasons reason among))))
 
+-- the line of each root stands in the report
 pub report_has_roots : ReportHasRoots
 report_has_roots image outcomes text root report among =
     subst (λ t. HasWithin (root_line image outcomes.list root) t) (sym report.is)

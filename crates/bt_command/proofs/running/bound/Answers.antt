@@ -1,63 +1,64 @@
-use Rattle.bt_command.proofs.Asks.{read_cycles, read_assertions}
+use Rattle.std.proofs.Common.{Bool, true, false, refl, rules, subst}
+use Rattle.bt_command.proofs.Says.{refuses_problem, refused_bound, unshown_bound}
+use Rattle.bt_command.proofs.Shown.{report_shown, report_held}
 use Rattle.bt_command.proofs.running.bound.Goals as goal
+use Rattle.bt_command.specs.Call.{call_of}
+use Rattle.bt_command.specs.Program.{IsReportOf}
 
-pub returns-in-Err-Fault-cycles_from-clause-asks : goal.returns-in-Err-Fault-cycles_from-clause-asks
-returns-in-Err-Fault-cycles_from-clause-asks g c =
-    read_cycles _ _ _ _ c.in-Ok.ensures.asked c.in-Ok.ensures.accepted c.in-Err-Fault-cycles_from.ensures.asked
+pub returns-in-Err-clause-says : goal.returns-in-Err-clause-says
+returns-in-Err-clause-says g c = refused_bound _ _ c.in-Err.status (c.in-Err.ensures.refused c.in-Err.status refl)
 
-pub returns-in-Err-TooLong-cycles_from-clause-asks : goal.returns-in-Err-TooLong-cycles_from-clause-asks
-returns-in-Err-TooLong-cycles_from-clause-asks g c =
-    read_cycles _ _ _ _ c.in-Ok.ensures.asked c.in-Ok.ensures.accepted c.in-Err-TooLong-cycles_from.ensures.asked
+pub returns-in-Err-clause-shows : goal.returns-in-Err-clause-shows
+returns-in-Err-clause-shows g c =
+    unshown_bound _ (call_of g.F.Shelf.told g.F.Shelf.faults g.F.Shelf.asked g.K.Sink.told g.K.Sink.faults c.args.shelf.now c.problem_from.new.shelf c.args.out.now c.args.out.now)
+    c.in-Err.status (c.in-Err.ensures.refused c.in-Err.status refl)
 
-pub returns-in-Err-Refused-cycles_from-clause-asks : goal.returns-in-Err-Refused-cycles_from-clause-asks
-returns-in-Err-Refused-cycles_from-clause-asks g c =
-    read_cycles _ _ _ _ c.in-Ok.ensures.asked c.in-Ok.ensures.accepted c.in-Err-Refused-cycles_from.ensures.asked
+pub returns-in-Err-report_of-clause-says : goal.returns-in-Err-report_of-clause-says
+returns-in-Err-report_of-clause-says g c =
+    refused_bound _ _ c.in-Err-report_of.status
+    (refuses_problem _ _ c.in-Ok.problem c.in-Err-report_of.status c.in-Ok.ensures.accepted
+    (λ image costs those is. c.in-Err-report_of.ensures.refused image costs those c.in-Err-report_of.status is refl))
 
-pub returns-in-Err-Want-cycles_from-clause-asks : goal.returns-in-Err-Want-cycles_from-clause-asks
-returns-in-Err-Want-cycles_from-clause-asks g c =
-    read_cycles _ _ _ _ c.in-Ok.ensures.asked c.in-Ok.ensures.accepted c.in-Err-Want-cycles_from.ensures.asked
+pub returns-in-Err-report_of-clause-shows : goal.returns-in-Err-report_of-clause-shows
+returns-in-Err-report_of-clause-shows g c =
+    unshown_bound _ (call_of g.F.Shelf.told g.F.Shelf.faults g.F.Shelf.asked g.K.Sink.told g.K.Sink.faults c.args.shelf.now c.problem_from.new.shelf c.args.out.now c.args.out.now)
+    c.in-Err-report_of.status
+    (refuses_problem _ _ c.in-Ok.problem c.in-Err-report_of.status c.in-Ok.ensures.accepted
+    (λ image costs those is. c.in-Err-report_of.ensures.refused image costs those c.in-Err-report_of.status is refl))
 
-pub returns-in-Err-Fault-assertions_from-clause-asks : goal.returns-in-Err-Fault-assertions_from-clause-asks
-returns-in-Err-Fault-assertions_from-clause-asks g c =
-    read_assertions _ _ _ _ _ _ _ c.in-Ok.ensures.asked c.in-Ok.ensures.accepted c.in-Ok-cycles_from.ensures.asked
-    c.in-Ok-cycles_from.ensures.accepted (c.in-Ok.ensures.same c.args.cycles.now) c.in-Err-Fault-assertions_from.ensures.asked
+pub returns-then-report-clause-says : goal.returns-then-report-clause-says
+returns-then-report-clause-says g c = record {
+  text = c.in-Ok-report_of.report.text.items;
+  is = report_shown _ _ c.in-Ok.problem c.in-Ok.ensures.accepted true c.in-Ok-report_of.report.text.items
+      (λ image costs those is. subst (λ (b : Bool). IsReportOf image costs those b c.in-Ok-report_of.report.text.items) c.if-report.true (c.in-Ok-report_of.ensures.report image costs those is));
+  written = search rules;
+}
 
-pub returns-in-Err-TooLong-assertions_from-clause-asks : goal.returns-in-Err-TooLong-assertions_from-clause-asks
-returns-in-Err-TooLong-assertions_from-clause-asks g c =
-    read_assertions _ _ _ _ _ _ _ c.in-Ok.ensures.asked c.in-Ok.ensures.accepted c.in-Ok-cycles_from.ensures.asked
-    c.in-Ok-cycles_from.ensures.accepted (c.in-Ok.ensures.same c.args.cycles.now) c.in-Err-TooLong-assertions_from.ensures.asked
+pub returns-then-report-clause-shows : goal.returns-then-report-clause-shows
+returns-then-report-clause-shows g c =
+    report_held _ _ c.in-Ok.problem c.in-Ok-report_of.report.text.items c.in-Ok.ensures.accepted c.in-Ok-report_of.ensures.holds (search rules)
 
-pub returns-in-Err-Refused-assertions_from-clause-asks : goal.returns-in-Err-Refused-assertions_from-clause-asks
-returns-in-Err-Refused-assertions_from-clause-asks g c =
-    read_assertions _ _ _ _ _ _ _ c.in-Ok.ensures.asked c.in-Ok.ensures.accepted c.in-Ok-cycles_from.ensures.asked
-    c.in-Ok-cycles_from.ensures.accepted (c.in-Ok.ensures.same c.args.cycles.now) c.in-Err-Refused-assertions_from.ensures.asked
+pub returns-in-Ok-write_all-clause-says : goal.returns-in-Ok-write_all-clause-says
+returns-in-Ok-write_all-clause-says g c = record {
+  text = c.in-Ok-report_of.report.text.items;
+  is = report_shown _ _ c.in-Ok.problem c.in-Ok.ensures.accepted false c.in-Ok-report_of.report.text.items
+      (λ image costs those is. subst (λ (b : Bool). IsReportOf image costs those b c.in-Ok-report_of.report.text.items) c.if-report.false (c.in-Ok-report_of.ensures.report image costs those is));
+  written = search rules;
+}
 
-pub returns-in-Err-Want-assertions_from-clause-asks : goal.returns-in-Err-Want-assertions_from-clause-asks
-returns-in-Err-Want-assertions_from-clause-asks g c =
-    read_assertions _ _ _ _ _ _ _ c.in-Ok.ensures.asked c.in-Ok.ensures.accepted c.in-Ok-cycles_from.ensures.asked
-    c.in-Ok-cycles_from.ensures.accepted (c.in-Ok.ensures.same c.args.cycles.now) c.in-Err-Want-assertions_from.ensures.asked
+pub returns-in-Ok-write_all-clause-shows : goal.returns-in-Ok-write_all-clause-shows
+returns-in-Ok-write_all-clause-shows g c =
+    report_held _ _ c.in-Ok.problem c.in-Ok-report_of.report.text.items c.in-Ok.ensures.accepted c.in-Ok-report_of.ensures.holds (search rules)
 
-pub returns-in-None-clause-asks : goal.returns-in-None-clause-asks
-returns-in-None-clause-asks g c =
-    read_assertions _ _ _ _ _ _ _ c.in-Ok.ensures.asked c.in-Ok.ensures.accepted c.in-Ok-cycles_from.ensures.asked
-    c.in-Ok-cycles_from.ensures.accepted (c.in-Ok.ensures.same c.args.cycles.now) c.in-Ok-assertions_from.ensures.asked
-
-pub returns-in-Err-NotStraight-clause-asks : goal.returns-in-Err-NotStraight-clause-asks
-returns-in-Err-NotStraight-clause-asks g c =
-    read_assertions _ _ _ _ _ _ _ c.in-Ok.ensures.asked c.in-Ok.ensures.accepted c.in-Ok-cycles_from.ensures.asked
-    c.in-Ok-cycles_from.ensures.accepted (c.in-Ok.ensures.same c.args.cycles.now) c.in-Ok-assertions_from.ensures.asked
-
-pub returns-in-Err-Want-report_for-clause-asks : goal.returns-in-Err-Want-report_for-clause-asks
-returns-in-Err-Want-report_for-clause-asks g c =
-    read_assertions _ _ _ _ _ _ _ c.in-Ok.ensures.asked c.in-Ok.ensures.accepted c.in-Ok-cycles_from.ensures.asked
-    c.in-Ok-cycles_from.ensures.accepted (c.in-Ok.ensures.same c.args.cycles.now) c.in-Ok-assertions_from.ensures.asked
-
-pub returns-in-Ok-write_all-clause-asks : goal.returns-in-Ok-write_all-clause-asks
-returns-in-Ok-write_all-clause-asks g c =
-    read_assertions _ _ _ _ _ _ _ c.in-Ok.ensures.asked c.in-Ok.ensures.accepted c.in-Ok-cycles_from.ensures.asked
-    c.in-Ok-cycles_from.ensures.accepted (c.in-Ok.ensures.same c.args.cycles.now) c.in-Ok-assertions_from.ensures.asked
-
-pub returns-clause-asks : goal.returns-clause-asks
-returns-clause-asks g c =
-    read_assertions _ _ _ _ _ _ _ c.in-Ok.ensures.asked c.in-Ok.ensures.accepted c.in-Ok-cycles_from.ensures.asked
-    c.in-Ok-cycles_from.ensures.accepted (c.in-Ok.ensures.same c.args.cycles.now) c.in-Ok-assertions_from.ensures.asked
+pub returns-clause-says : goal.returns-clause-says
+returns-clause-says g c = (
+  c.in-Ok-report_of.report.bounded,
+  record {
+    text = c.in-Ok-report_of.report.text.items;
+    is = report_shown _ _ c.in-Ok.problem c.in-Ok.ensures.accepted c.in-Ok-report_of.report.bounded c.in-Ok-report_of.report.text.items
+        c.in-Ok-report_of.ensures.report;
+    less = search rules;
+    written = search rules;
+    rose = search rules;
+  },
+)
