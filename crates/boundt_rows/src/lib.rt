@@ -8,6 +8,10 @@ mod calls;
 #[cfg(test)]
 mod decode;
 #[cfg(test)]
+mod executables;
+#[cfg(test)]
 mod graph;
 #[cfg(test)]
 mod versions;
+#[cfg(test)]
+mod worked;

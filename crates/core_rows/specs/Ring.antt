@@ -1,6 +1,6 @@
 -- A small system to try the calls with: keys in a ring, each of which hands its number on to the next one.
 use Rattle.std.specs.Prelude.{◌≡◌, ℕ, ◌+◌, ◌<◌, ◌≤◌, Bool, true, false, List, [], ◌∷◌, length, Option, Some, None, IsTrue, Contains, nat_lt, nat_le}
-use Rattle.std.specs.Prelude.{if◌then◌else◌, min, max, refl}
+use Rattle.std.specs.Prelude.{if◌then◌else◌, min, max, refl, ◌/◌, ◌%◌}
 use Rattle.std.specs.Ordering.{nat_cmp}
 use Rattle.std.proofs.Common.{sym, ap, ◌∙◌, subst, arith, inl, inr, ◌⊎◌, ⊎_elim, zero, suc, cond, rules, tests}
 use Rattle.std.proofs.lemmas.Bool.Decides.{nat_tests}
@@ -81,6 +81,10 @@ gives_up last second j (Some u) (Some w) h k v listed =
     let is = one_of (next_of last j, handed last j u) (k, v) listed in
     subst (λ (x : ℕ × ℕ). HasPieceAbove (ring last second) (ring_gives last j (Some w)) x.0 x.1) is
     (record { fact = handed last j w; listed = (0, omega arith, refl); above = up })
+
+-- the number of a key's part is below 64
+pub ring_parted : (k : ℕ) → k / 16 % 64 < 64
+ring_parted k = omega arith
 
 pub ring_lawful : (last second : ℕ) → IsLawful nat_cmp (ring last second)
 ring_lawful last second = record {

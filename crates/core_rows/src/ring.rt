@@ -1,7 +1,8 @@
-ghost use Rattle.core_rows.specs.Ring.{ring, ring_lawful};
+ghost use Rattle.std.specs.Prelude.{◌/◌, ◌%◌};
+ghost use Rattle.core_rows.specs.Ring.{ring, ring_lawful, ring_parted};
 
 use bt_base::Want;
-use flow_system::{Facts, System};
+use flow_system::{Facts, Parted, System};
 use std::alloc::Global;
 
 /// Keys in a ring up to `last`, each of which hands its number on to the next one; where the ring closes
@@ -63,5 +64,16 @@ impl System for Ring {
 
     fn counted(&self, _k: u32) -> bool {
         true
+    }
+}
+
+/// A part has 16 keys in a row, and the part after the last is the first again.
+impl Parted for Ring {
+    ghost part_of = { λ s k. k / 16 % 64 };
+
+    ghost few = { λ s k. ring_parted k };
+
+    fn part(&self, k: u32) -> u32 {
+        k / 16 % 64
     }
 }

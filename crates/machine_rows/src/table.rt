@@ -2,7 +2,6 @@
 use cycle_table::{CycleRefusal, Cycles, Why};
 use sparc_decode::{CostClass, decode};
 use std::alloc::{AllocError, Global};
-use std::process::Abort;
 use std::test::Fail;
 
 /// The lines of the classes of version 1, whose costs are 10, 20 and so on, without an LF at the end.
@@ -44,139 +43,106 @@ fn second(alloc: Global, more: &str) -> Result<String, AllocError> {
     format!(in alloc; "cycles 2\n{LINES}\n{more}")
 }
 
-/// Reads a short text.
-fn read(rt: &impl Abort, text: &[u8]) -> Result<Cycles, CycleRefusal> {
-    assert!(rt; text.len() < 10_000);
-    Cycles::read(text)
+/// What a text of less than 10,000 bytes is read as.
+fn read(text: &[u8]) -> Option<Result<Cycles, CycleRefusal>> {
+    if text.len() < 10_000 {
+        Some(Cycles::read(text))
+    } else {
+        None
+    }
 }
 
-fn line(n: u32, why: Why) -> CycleRefusal {
-    CycleRefusal::Line { n, why }
+/// What is refused of a text.
+fn refusal(text: &[u8]) -> Option<CycleRefusal> {
+    read(text)?.err()
 }
+
+/// Texts, and what is refused of them.
+#[rattlefmt::skip]
+const REFUSED: [(&str, CycleRefusal); 46] = [
+    ("", CycleRefusal::Line { n: 1, why: Why::Header }),
+    ("\n \t\n # cycles 1\n", CycleRefusal::Line { n: 1, why: Why::Header }),
+    ("cycles", CycleRefusal::Line { n: 1, why: Why::Header }),
+    ("cycles 2\n", CycleRefusal::Missing { class: CostClass::Alu }),
+    ("cycles 3\n", CycleRefusal::Line { n: 1, why: Why::Header }),
+    ("cycles 12\n", CycleRefusal::Line { n: 1, why: Why::Header }),
+    ("cycles 02\n", CycleRefusal::Line { n: 1, why: Why::Header }),
+    ("cycles 2 2\n", CycleRefusal::Line { n: 1, why: Why::Header }),
+    ("cycles 1\nloaduse 1\n", CycleRefusal::Line { n: 2, why: Why::Class }),
+    ("cycles 1\nmultiply\n", CycleRefusal::Line { n: 2, why: Why::Class }),
+    ("cycles 1\ndivide 0\n", CycleRefusal::Line { n: 2, why: Why::Class }),
+    ("cycles 2\nmultiply\n", CycleRefusal::Line { n: 2, why: Why::Number }),
+    ("cycles 2\ndivide 1 1\n", CycleRefusal::Line { n: 2, why: Why::Extra }),
+    ("cycles 2\nloaduse 0\n", CycleRefusal::Zero { class: CostClass::Loaduse, n: 2 }),
+    ("cycles 2\nmultiply 1\nmultiply 1\n", CycleRefusal::Twice { class: CostClass::Multiply, n: 3 }),
+    ("cycles 01\n", CycleRefusal::Line { n: 1, why: Why::Header }),
+    ("\n\ncycles 1 x\n", CycleRefusal::Line { n: 3, why: Why::Header }),
+    ("alu 1\ncycles 1\n", CycleRefusal::Line { n: 1, why: Why::Header }),
+    ("cycles 1\r", CycleRefusal::Line { n: 1, why: Why::Header }),
+    ("cycles 1\r\r\n", CycleRefusal::Line { n: 1, why: Why::Header }),
+    ("cycles 1", CycleRefusal::Missing { class: CostClass::Alu }),
+    ("cycles 1\r\n", CycleRefusal::Missing { class: CostClass::Alu }),
+    ("cycles 1\ncycles 1\n", CycleRefusal::Line { n: 2, why: Why::Class }),
+    ("cycles 1\nALU 1\n", CycleRefusal::Line { n: 2, why: Why::Class }),
+    ("cycles 1\n\nfoo\nalu\n", CycleRefusal::Line { n: 3, why: Why::Class }),
+    ("cycles 1\nfoo +1 x\n", CycleRefusal::Line { n: 2, why: Why::Class }),
+    ("cycles 1\nunmodelled 1\n", CycleRefusal::Line { n: 2, why: Why::Class }),
+    ("cycles 1\nal#u 1\n", CycleRefusal::Line { n: 2, why: Why::Class }),
+    ("cycles 1\nalu\n", CycleRefusal::Line { n: 2, why: Why::Number }),
+    ("cycles 1\nalu # 1\n", CycleRefusal::Line { n: 2, why: Why::Number }),
+    ("cycles 1\nalu +1\n", CycleRefusal::Line { n: 2, why: Why::Number }),
+    ("cycles 1\nalu 1a\n", CycleRefusal::Line { n: 2, why: Why::Number }),
+    ("cycles 1\nalu 1\r", CycleRefusal::Line { n: 2, why: Why::Number }),
+    ("cycles 1\nalu 1000001\n", CycleRefusal::Line { n: 2, why: Why::Number }),
+    ("cycles 1\nalu 1000001 x\n", CycleRefusal::Line { n: 2, why: Why::Number }),
+    ("cycles 1\nalu 340282366920938463463374607431768211457\n", CycleRefusal::Line { n: 2, why: Why::Number }),
+    ("cycles 1\nalu 0 x\n", CycleRefusal::Line { n: 2, why: Why::Extra }),
+    ("cycles 1\nalu 1 1\n", CycleRefusal::Line { n: 2, why: Why::Extra }),
+    ("cycles 1\nalu 1000000#1\n", CycleRefusal::Missing { class: CostClass::Shift }),
+    ("cycles 1\nalu 00000000000000000000000000000000000000000000000001\n", CycleRefusal::Missing { class: CostClass::Shift }),
+    (" \tcycles\t 1 \r\n\r\n\t alu  7\t#\u{e9}\n", CycleRefusal::Missing { class: CostClass::Shift }),
+    ("cycles 1\nalu 000\n", CycleRefusal::Zero { class: CostClass::Alu, n: 2 }),
+    ("cycles 1\nalu 1\n#\nalu 1\n", CycleRefusal::Twice { class: CostClass::Alu, n: 4 }),
+    ("cycles 1\nalu 1\nalu 0\n", CycleRefusal::Zero { class: CostClass::Alu, n: 3 }),
+    ("cycles 1\nalu 1\nalu 1\nshift 0", CycleRefusal::Twice { class: CostClass::Alu, n: 3 }),
+    ("cycles 1\nshift 1\nalu 1\ntrap 1", CycleRefusal::Missing { class: CostClass::Sethi }),
+];
 
 #[test]
 fn refuses_the_first_bad_line(rt: HostRuntime) {
-    let missing = |class| CycleRefusal::Missing { class };
-    for (text, want) in [
-        ("", line(1, Why::Header)),
-        ("\n \t\n # cycles 1\n", line(1, Why::Header)),
-        ("cycles", line(1, Why::Header)),
-        ("cycles 2\n", missing(CostClass::Alu)),
-        ("cycles 3\n", line(1, Why::Header)),
-        ("cycles 12\n", line(1, Why::Header)),
-        ("cycles 02\n", line(1, Why::Header)),
-        ("cycles 2 2\n", line(1, Why::Header)),
-        ("cycles 1\nloaduse 1\n", line(2, Why::Class)),
-        ("cycles 1\nmultiply\n", line(2, Why::Class)),
-        ("cycles 1\ndivide 0\n", line(2, Why::Class)),
-        ("cycles 2\nmultiply\n", line(2, Why::Number)),
-        ("cycles 2\ndivide 1 1\n", line(2, Why::Extra)),
-        (
-            "cycles 2\nloaduse 0\n",
-            CycleRefusal::Zero {
-                class: CostClass::Loaduse,
-                n: 2,
-            },
-        ),
-        (
-            "cycles 2\nmultiply 1\nmultiply 1\n",
-            CycleRefusal::Twice {
-                class: CostClass::Multiply,
-                n: 3,
-            },
-        ),
-        ("cycles 01\n", line(1, Why::Header)),
-        ("\n\ncycles 1 x\n", line(3, Why::Header)),
-        ("alu 1\ncycles 1\n", line(1, Why::Header)),
-        ("cycles 1\r", line(1, Why::Header)),
-        ("cycles 1\r\r\n", line(1, Why::Header)),
-        ("cycles 1", missing(CostClass::Alu)),
-        ("cycles 1\r\n", missing(CostClass::Alu)),
-        ("cycles 1\ncycles 1\n", line(2, Why::Class)),
-        ("cycles 1\nALU 1\n", line(2, Why::Class)),
-        ("cycles 1\n\nfoo\nalu\n", line(3, Why::Class)),
-        ("cycles 1\nfoo +1 x\n", line(2, Why::Class)),
-        ("cycles 1\nunmodelled 1\n", line(2, Why::Class)),
-        ("cycles 1\nal#u 1\n", line(2, Why::Class)),
-        ("cycles 1\nalu\n", line(2, Why::Number)),
-        ("cycles 1\nalu # 1\n", line(2, Why::Number)),
-        ("cycles 1\nalu +1\n", line(2, Why::Number)),
-        ("cycles 1\nalu 1a\n", line(2, Why::Number)),
-        ("cycles 1\nalu 1\r", line(2, Why::Number)),
-        ("cycles 1\nalu 1000001\n", line(2, Why::Number)),
-        ("cycles 1\nalu 1000001 x\n", line(2, Why::Number)),
-        (
-            "cycles 1\nalu 340282366920938463463374607431768211457\n",
-            line(2, Why::Number),
-        ),
-        ("cycles 1\nalu 0 x\n", line(2, Why::Extra)),
-        ("cycles 1\nalu 1 1\n", line(2, Why::Extra)),
-        ("cycles 1\nalu 1000000#1\n", missing(CostClass::Shift)),
-        (
-            "cycles 1\nalu 00000000000000000000000000000000000000000000000001\n",
-            missing(CostClass::Shift),
-        ),
-        (
-            " \tcycles\t 1 \r\n\r\n\t alu  7\t#\u{e9}\n",
-            missing(CostClass::Shift),
-        ),
-        (
-            "cycles 1\nalu 000\n",
-            CycleRefusal::Zero {
-                class: CostClass::Alu,
-                n: 2,
-            },
-        ),
-        (
-            "cycles 1\nalu 1\n#\nalu 1\n",
-            CycleRefusal::Twice {
-                class: CostClass::Alu,
-                n: 4,
-            },
-        ),
-        (
-            "cycles 1\nalu 1\nalu 0\n",
-            CycleRefusal::Zero {
-                class: CostClass::Alu,
-                n: 3,
-            },
-        ),
-        (
-            "cycles 1\nalu 1\nalu 1\nshift 0",
-            CycleRefusal::Twice {
-                class: CostClass::Alu,
-                n: 3,
-            },
-        ),
-        (
-            "cycles 1\nshift 1\nalu 1\ntrap 1",
-            missing(CostClass::Sethi),
-        ),
-    ] {
-        assert_eq!(rt; read(&rt, text.as_bytes()), Err(want), "at {text:?}");
+    for (text, want) in &REFUSED {
+        assert!(rt; refusal(text.as_bytes()) == Some(*want), "at {text:?}");
     }
-    assert_eq!(rt;
-        read(&rt, b"#\xff\ncycles 1\n\xff 1\n"),
-        Err(line(3, Why::Class))
-    );
+    let other = CycleRefusal::Line {
+        n: 3,
+        why: Why::Class,
+    };
+    assert!(rt; refusal(b"#\xff\ncycles 1\n\xff 1\n") == Some(other));
+}
+
+/// Lines behind those of version 1 in a table of version 2, and the first class that it lacks.
+const LACKING: [(&str, CostClass); 4] = [
+    ("", CostClass::Loaduse),
+    ("divide 1\nmultiply 1\n", CostClass::Loaduse),
+    ("loaduse 1\ndivide 1\n", CostClass::Multiply),
+    ("loaduse 1\nmultiply 1\n", CostClass::Divide),
+];
+
+/// Whether a table lacks a class.
+fn lacks(text: &[u8], class: CostClass) -> bool {
+    refusal(text) == Some(CycleRefusal::Missing { class })
 }
 
 /// Tables that lack a class.
 #[test]
 fn names_the_first_missing_class(rt: HostRuntime) -> Result<(), Fail> {
     let alloc = rt.alloc();
-    let missing = |class| Err(CycleRefusal::Missing { class });
     let mut whole = Vec::from_slice(alloc, first(alloc)?.as_bytes())?;
     whole.truncate(whole.len().saturating_sub(12));
-    assert_eq!(rt; read(&rt, &whole), missing(CostClass::Annulled));
-    for (more, class) in [
-        ("", CostClass::Loaduse),
-        ("divide 1\nmultiply 1\n", CostClass::Loaduse),
-        ("loaduse 1\ndivide 1\n", CostClass::Multiply),
-        ("loaduse 1\nmultiply 1\n", CostClass::Divide),
-    ] {
+    assert!(rt; lacks(&whole, CostClass::Annulled));
+    for (more, class) in &LACKING {
         let text = second(alloc, more)?;
-        assert_eq!(rt; read(&rt, text.as_bytes()), missing(class), "with {more:?}");
+        assert!(rt; lacks(text.as_bytes(), *class), "with {more:?}");
     }
     Ok(())
 }
@@ -213,72 +179,76 @@ const COSTS: [(u32, u32); 28] = [
     (0xc280_8003, 0),
 ];
 
+/// What words cost by a table of version 2 alone.
+const NEW_COSTS: [(u32, u32); 4] = [
+    (0x8250_8003, 290),
+    (0x82d8_8003, 290),
+    (0x8270_8003, 300),
+    (0x82f8_8003, 300),
+];
+
+/// A table of version 1, if it is not refused.
+fn old_table(alloc: Global) -> Result<Option<Cycles>, AllocError> {
+    let text = first(alloc)?;
+    Ok(cycles_of(text.as_bytes()))
+}
+
+/// A table of version 2 with these lines behind those of version 1, if it is not refused.
+fn new_table(alloc: Global, more: &str) -> Result<Option<Cycles>, AllocError> {
+    let text = second(alloc, more)?;
+    Ok(cycles_of(text.as_bytes()))
+}
+
+/// The cycles of a text that is not refused.
+fn cycles_of(text: &[u8]) -> Option<Cycles> {
+    read(text)?.ok()
+}
+
+/// Whether a word costs so much by a table, and so much more where it is annulled.
+fn costs(table: &Cycles, word: u32, cost: u32) -> bool {
+    let i = decode(word);
+    table.cost(&i, false) == cost && table.cost(&i, true) == cost.wrapping_add(270)
+}
+
 #[test]
 fn charges_by_class(rt: HostRuntime) -> Result<(), Fail> {
-    let alloc = rt.alloc();
-    let old = read(&rt, first(alloc)?.as_bytes())?;
-    let new = read(
-        &rt,
-        second(alloc, "divide 300\nmultiply 290\nloaduse 280")?.as_bytes(),
-    )?;
+    let old = old_table(rt.alloc())?.ok_or("refused")?;
+    let new = new_table(rt.alloc(), "divide 300\nmultiply 290\nloaduse 280")?.ok_or("refused")?;
     assert!(rt; !old.eight() && new.eight());
-    for (word, cost) in COSTS {
-        let i = decode(word);
-        for table in [&old, &new] {
-            let own = table.cost(&i, false);
-            assert_eq!(rt; own, cost, "at {word:08x}");
-            assert_eq!(rt; table.cost(&i, true), own + 270, "at {word:08x}");
-        }
+    for (word, cost) in &COSTS {
+        let same = costs(&old, *word, *cost) && costs(&new, *word, *cost);
+        assert!(rt; same, "at {word:08x}");
     }
-    for (word, cost) in [
-        (0x8250_8003, 290),
-        (0x82d8_8003, 290),
-        (0x8270_8003, 300),
-        (0x82f8_8003, 300),
-    ] {
-        let i = decode(word);
-        assert_eq!(rt; old.cost(&i, false), 0, "at {word:08x}");
-        assert_eq!(rt; old.cost(&i, true), 270, "at {word:08x}");
-        let own = new.cost(&i, false);
-        assert_eq!(rt; own, cost, "at {word:08x}");
-        assert_eq!(rt; new.cost(&i, true), own + 270, "at {word:08x}");
+    for (word, cost) in &NEW_COSTS {
+        let other = costs(&old, *word, 0) && costs(&new, *word, *cost);
+        assert!(rt; other, "at {word:08x}");
     }
     Ok(())
 }
 
+/// Words, registers that were loaded right before, and what the use of one costs more: a sum of r2 and r3 into r1, a
+/// store of r1 at the sum, a return, a SETHI.
+const USES: [(u32, u32, u32); 9] = [
+    (0x8200_8003, 0x0000_0004, 7),
+    (0x8200_8003, 0x0000_0008, 7),
+    (0x8200_8003, 0x0000_000c, 7),
+    (0x8200_8003, 0x0000_0002, 0),
+    (0x8200_8003, 0xffff_fff3, 0),
+    (0x8200_8003, 0x0000_0000, 0),
+    (0xc220_8003, 0x0000_0002, 7),
+    (0x81c3_e008, 0xffff_ffff, 7),
+    (0x0100_0000, 0xffff_ffff, 0),
+];
+
 /// What words cost more behind a load of some registers.
 #[test]
 fn charges_uses_behind_loads(rt: HostRuntime) -> Result<(), Fail> {
-    let alloc = rt.alloc();
-    let old = read(&rt, first(alloc)?.as_bytes())?;
-    let new = read(
-        &rt,
-        second(alloc, "loaduse 7\nmultiply 1\ndivide 1\n")?.as_bytes(),
-    )?;
-    for (word, loaded, cost) in [
-        // a sum of r2 and r3 into r1
-        (0x8200_8003, 0x0000_0004, 7),
-        (0x8200_8003, 0x0000_0008, 7),
-        (0x8200_8003, 0x0000_000c, 7),
-        (0x8200_8003, 0x0000_0002, 0),
-        (0x8200_8003, 0xffff_fff3, 0),
-        (0x8200_8003, 0x0000_0000, 0),
-        // a store of r1 at the sum, a return, a SETHI
-        (0xc220_8003, 0x0000_0002, 7),
-        (0x81c3_e008, 0xffff_ffff, 7),
-        (0x0100_0000, 0xffff_ffff, 0),
-    ] {
-        let i = decode(word);
-        assert_eq!(rt;
-            new.pair(loaded, &i),
-            cost,
-            "at {word:08x} behind {loaded:08x}"
-        );
-        assert_eq!(rt;
-            old.pair(loaded, &i),
-            0,
-            "at {word:08x} behind {loaded:08x}"
-        );
+    let old = old_table(rt.alloc())?.ok_or("refused")?;
+    let new = new_table(rt.alloc(), "loaduse 7\nmultiply 1\ndivide 1\n")?.ok_or("refused")?;
+    for (word, loaded, cost) in &USES {
+        let i = decode(*word);
+        let well = new.pair(*loaded, &i) == *cost && old.pair(*loaded, &i) == 0;
+        assert!(rt; well, "at {word:08x} behind {loaded:08x}");
     }
     Ok(())
 }

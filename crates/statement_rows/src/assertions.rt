@@ -1,13 +1,20 @@
 //! Assertion files as statements, and what is misfitting in them.
 use assert_lang::*;
-use std::alloc::Global;
-use std::process::Abort;
+use std::alloc::{AllocError, Global};
 use std::test::Fail;
 
-/// Parses a short text.
-fn parsed(rt: &impl Abort, alloc: Global, text: &[u8]) -> Result<Assertions, AssertRefusal> {
-    assert!(rt; text.len() < 1_000_000);
-    parse(alloc, text)
+/// The statements of a text of less than a million bytes.
+fn parsed(alloc: Global, text: &str) -> Option<Result<Assertions, AssertRefusal>> {
+    if text.len() < 1_000_000 {
+        Some(parse(alloc, text.as_bytes()))
+    } else {
+        None
+    }
+}
+
+/// What is misfitting in a text.
+fn refusal(alloc: Global, text: &str) -> Option<AssertRefusal> {
+    parsed(alloc, text)?.err()
 }
 
 /// Texts without a bad line.
@@ -81,52 +88,70 @@ const BAD: [(&str, u32, u32, Expected); 63] = [
     ("root f\nroot", 2, 5, Expected::Place),
 ];
 
-#[test]
-fn refuses_the_first_bad_line(rt: HostRuntime) {
-    let alloc = rt.alloc();
-    for text in GOOD {
-        assert!(rt; parsed(&rt, alloc, text.as_bytes()).is_ok(), "at {text:?}");
+/// Whether nothing is misfitting in a text.
+fn is_good(alloc: Global, text: &str) -> bool {
+    match parsed(alloc, text) {
+        Some(list) => list.is_ok(),
+        None => false,
     }
-    for (text, n, column, expected) in BAD {
-        let want = AssertRefusal::Line {
+}
+
+/// Whether the first that is misfitting in a text is at this line and column, where this was expected.
+fn is_bad(alloc: Global, text: &str, n: u32, column: u32, expected: Expected) -> bool {
+    refusal(alloc, text)
+        == Some(AssertRefusal::Line {
             n,
             column,
             expected,
-        };
-        let got = parsed(&rt, alloc, text.as_bytes()).err();
-        assert!(rt; got == Some(want), "at {text:?}");
+        })
+}
+
+#[test]
+fn refuses_the_first_bad_line(rt: HostRuntime) {
+    for text in &GOOD {
+        assert!(rt; is_good(rt.alloc(), text), "at {text:?}");
+    }
+    for (text, n, column, expected) in &BAD {
+        assert!(rt;
+            is_bad(rt.alloc(), text, *n, *column, *expected),
+            "at {text:?}"
+        );
     }
 }
 
 /// A text of so many lines `root f`, and a last line.
-fn roots(alloc: Global, count: usize, last: &[u8]) -> Result<Vec<u8>, Fail> {
-    let mut text = Vec::new(alloc);
+fn roots(alloc: Global, count: usize, last: &str) -> Result<String, AllocError> {
+    let mut text = String::new(alloc);
     for _ in 0..count {
-        text.extend_from_slice(b"root f\n")?;
+        text.push_str("root f\n")?;
     }
-    text.extend_from_slice(last)?;
+    text.push_str(last)?;
     Ok(text)
 }
+
+/// Numbers of lines, a last line behind them, and what is refused.
+const COUNTS: [(usize, &str, Option<AssertRefusal>); 6] = [
+    (4095, "# and\n\nnever f", None),
+    (4096, "", None),
+    (4096, "\r\n# root f", None),
+    (4096, "never f", Some(AssertRefusal::Limit { count: 4097 })),
+    (4096, "never", Some(LAST)),
+    (4097, "never", Some(AssertRefusal::Limit { count: 4097 })),
+];
+
+/// The refusal of the last line.
+const LAST: AssertRefusal = AssertRefusal::Line {
+    n: 4097,
+    column: 6,
+    expected: Expected::Place,
+};
 
 #[test]
 fn takes_so_many_statements_and_no_more(rt: HostRuntime) -> Result<(), Fail> {
     let alloc = rt.alloc();
-    let bad = AssertRefusal::Line {
-        n: 4097,
-        column: 6,
-        expected: Expected::Place,
-    };
-    for (count, last, want) in [
-        (4095, "# and\n\nnever f", None),
-        (4096, "", None),
-        (4096, "\r\n# root f", None),
-        (4096, "never f", Some(AssertRefusal::Limit { count: 4097 })),
-        (4096, "never", Some(bad)),
-        (4097, "never", Some(AssertRefusal::Limit { count: 4097 })),
-    ] {
-        let text = roots(alloc, count, last.as_bytes())?;
-        let got = parsed(&rt, alloc, text.as_slice()).err();
-        assert_eq!(rt; got, want, "at {count} and {last:?}");
+    for (count, last, want) in &COUNTS {
+        let text = roots(alloc, *count, last)?;
+        assert!(rt; refusal(alloc, &text) == *want, "at {count} and {last:?}");
     }
     Ok(())
 }
@@ -148,41 +173,59 @@ fn is_address(spot: &Spot, address: u32) -> bool {
     }
 }
 
+/// Texts of one statement, its register and the ends of its range.
+const RANGES: [(&str, u8, i32, i32); 9] = [
+    ("at f %g1 0..1", 1, 0, 1),
+    (
+        "at f %g7 -0..00000000000000000000000000000000000000000000001",
+        7,
+        0,
+        1,
+    ),
+    (
+        "at f %o0 -2147483648..2147483647",
+        8,
+        -2147483648,
+        2147483647,
+    ),
+    ("at f %o6 5..-7", 14, 5, -7),
+    ("at f %sp 5..-7", 14, 5, -7),
+    ("at f %l0 1..1", 16, 1, 1),
+    ("at f %i6 1..1", 30, 1, 1),
+    ("at f %fp 1..1", 30, 1, 1),
+    (" at\tf %i7\t1..1 # x\r\n", 31, 1, 1),
+];
+
 /// Whether a statement has a name `f`, a register and the ends of its range.
-fn is_at(body: &Body, register: u8, ends: (i32, i32)) -> bool {
+fn is_at(body: &Body, register: u8, low: i32, high: i32) -> bool {
     match body {
         Body::At { spot, reg, lo, hi } => is_named(spot, "f", None)
             && *reg == register
-            && (*lo, *hi) == ends,
+            && *lo == low
+            && *hi == high,
+        _ => false,
+    }
+}
+
+/// Whether a text is one statement with a name `f`, a register and the ends of its range.
+fn is_only_at(alloc: Global, text: &str, register: u8, low: i32, high: i32) -> bool {
+    match parsed(alloc, text) {
+        Some(Ok(list)) => match list.as_slice() {
+            [only] => is_at(&only.body, register, low, high),
+            _ => false,
+        },
         _ => false,
     }
 }
 
 #[test]
-fn reads_registers_and_ranges(rt: HostRuntime) -> Result<(), Fail> {
-    let alloc = rt.alloc();
-    for (text, register, ends) in [
-        ("at f %g1 0..1", 1, (0, 1)),
-        (
-            "at f %g7 -0..00000000000000000000000000000000000000000000001",
-            7,
-            (0, 1),
-        ),
-        ("at f %o0 -2147483648..2147483647", 8, (i32::MIN, i32::MAX)),
-        ("at f %o6 5..-7", 14, (5, -7)),
-        ("at f %sp 5..-7", 14, (5, -7)),
-        ("at f %l0 1..1", 16, (1, 1)),
-        ("at f %i6 1..1", 30, (1, 1)),
-        ("at f %fp 1..1", 30, (1, 1)),
-        (" at\tf %i7\t1..1 # x\r\n", 31, (1, 1)),
-    ] {
-        let list = parsed(&rt, alloc, text.as_bytes())?.into_vec();
+fn reads_registers_and_ranges(rt: HostRuntime) {
+    for (text, register, low, high) in &RANGES {
         assert!(rt;
-            list.len() == 1 && is_at(&list[0].body, register, ends),
+            is_only_at(rt.alloc(), text, *register, *low, *high),
             "at {text:?}"
         );
     }
-    Ok(())
 }
 
 /// The body of the statement at a place, if it is on this line.
@@ -223,10 +266,13 @@ const FORMS: &str = "root main\n\
     loop .L1 repeats 4611686018427387903\n\
     stub $s time 01";
 
-#[test]
-fn reads_each_form(rt: HostRuntime) -> Result<(), Fail> {
-    let list = parsed(&rt, rt.alloc(), FORMS.as_bytes())?;
-    let list = list.as_slice();
+/// Whether these are the statements of every form.
+fn are_forms(list: &[Assertion]) -> bool {
+    list.len() == 6 && are_places(list) && are_transfers(list) && are_numbers(list)
+}
+
+/// Whether the statements of one place are those of every form.
+fn are_places(list: &[Assertion]) -> bool {
     let root = match body_at(list, 0, 1) {
         Some(Body::Root(spot)) => is_named(spot, "main", None),
         _ => false,
@@ -235,6 +281,11 @@ fn reads_each_form(rt: HostRuntime) -> Result<(), Fail> {
         Some(Body::Never(spot)) => is_named(spot, "_a.b$9", Some(255)),
         _ => false,
     };
+    root && never
+}
+
+/// Whether the statements of transfers are those of every form.
+fn are_transfers(list: &[Assertion]) -> bool {
     let jump = match body_at(list, 2, 4) {
         Some(Body::Jump { spot, to }) => is_address(spot, 0x0200_0004) && is_one(to.as_slice()),
         _ => false,
@@ -243,6 +294,11 @@ fn reads_each_form(rt: HostRuntime) -> Result<(), Fail> {
         Some(Body::CallTo { spot, to }) => is_named(spot, "f", None) && are_four(to.as_slice()),
         _ => false,
     };
+    jump && call
+}
+
+/// Whether the statements with numbers are those of every form.
+fn are_numbers(list: &[Assertion]) -> bool {
     let bounded = match body_at(list, 4, 6) {
         Some(Body::Loop { spot, count }) => is_named(spot, ".L1", None) && *count == (1 << 62) - 1,
         _ => false,
@@ -251,7 +307,18 @@ fn reads_each_form(rt: HostRuntime) -> Result<(), Fail> {
         Some(Body::Stub { spot, time }) => is_named(spot, "$s", None) && *time == 1,
         _ => false,
     };
-    assert_eq!(rt; [root, never, jump, call, bounded, stub], [true; 6]);
-    assert_eq!(rt; list.len(), 6);
-    Ok(())
+    bounded && stub
+}
+
+/// Whether the text of every form is read as these statements.
+fn reads_forms(alloc: Global) -> bool {
+    match parsed(alloc, FORMS) {
+        Some(Ok(list)) => are_forms(list.as_slice()),
+        _ => false,
+    }
+}
+
+#[test]
+fn reads_each_form(rt: HostRuntime) {
+    assert!(rt; reads_forms(rt.alloc()));
 }

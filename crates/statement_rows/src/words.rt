@@ -1,6 +1,6 @@
 //! Calls, and what their words ask for.
 use bt_words::{NoRequest, Request, request_of};
-use std::alloc::Global;
+use std::alloc::{AllocError, Global};
 use std::test::Fail;
 
 /// Words that are refused.
@@ -96,7 +96,7 @@ const LISTED: [(&str, &str); 4] = [
 ];
 
 /// The words of a call, parted by blanks; `''` stands for the empty word.
-fn call(alloc: Global, text: &str) -> Result<Vec<String>, Fail> {
+fn call(alloc: Global, text: &str) -> Result<Vec<String>, AllocError> {
     let mut words = Vec::new(alloc);
     for word in text.split_whitespace() {
         let word = if word == "''" { "" } else { word };
@@ -105,30 +105,45 @@ fn call(alloc: Global, text: &str) -> Result<Vec<String>, Fail> {
     Ok(words)
 }
 
+/// Whether a call is refused.
+fn is_refused(alloc: Global, text: &str) -> Result<bool, AllocError> {
+    let words = call(alloc, text)?;
+    Ok(request_of(alloc, &words) == Err(NoRequest::Usage))
+}
+
+/// Whether a call asks for this.
+fn asks_for(alloc: Global, text: &str, want: Request) -> Result<bool, AllocError> {
+    let words = call(alloc, text)?;
+    Ok(request_of(alloc, &words) == Ok(want))
+}
+
 #[test]
-fn requests_of_words(rt: HostRuntime) -> Result<(), Fail> {
-    let alloc = rt.alloc();
-    for text in REFUSED {
-        let words = call(alloc, text)?;
-        assert!(rt;
-            request_of(alloc, &words) == Err(NoRequest::Usage),
-            "at {text}"
-        );
+fn refused_words(rt: HostRuntime) -> Result<(), Fail> {
+    for text in &REFUSED {
+        assert!(rt; is_refused(rt.alloc(), text)?, "at {text}");
     }
-    for (text, image, cycles, assertions, workers) in BOUND {
-        let words = call(alloc, text)?;
+    Ok(())
+}
+
+#[test]
+fn requests_for_bounds(rt: HostRuntime) -> Result<(), Fail> {
+    for (text, image, cycles, assertions, workers) in &BOUND {
         let want = Request::Bound {
             image,
             cycles,
             assertions,
-            workers,
+            workers: *workers,
         };
-        assert!(rt; request_of(alloc, &words) == Ok(want), "at {text}");
+        assert!(rt; asks_for(rt.alloc(), text, want)?, "at {text}");
     }
-    for (text, image) in LISTED {
-        let words = call(alloc, text)?;
+    Ok(())
+}
+
+#[test]
+fn requests_for_listings(rt: HostRuntime) -> Result<(), Fail> {
+    for (text, image) in &LISTED {
         assert!(rt;
-            request_of(alloc, &words) == Ok(Request::Decode { image }),
+            asks_for(rt.alloc(), text, Request::Decode { image })?,
             "at {text}"
         );
     }

@@ -52,36 +52,48 @@ fn compares(x: u32, y: u32) -> bool {
         && holds(13, &flags) == (x >= y)
 }
 
+/// Whether all operations on two words agree.
+fn agrees(x: u32, y: u32) -> bool {
+    adds(x, y) && subtracts(x, y) && multiplies(x, y) && compares(x, y)
+}
+
 #[test]
 fn agrees_with_signed_numbers(rt: HostRuntime) {
-    for x in EDGES {
-        for y in EDGES {
-            assert!(rt; adds(x, y), "{x:x} + {y:x}");
-            assert!(rt; subtracts(x, y), "{x:x} - {y:x}");
-            assert!(rt; multiplies(x, y), "{x:x} * {y:x}");
-            assert!(rt; compares(x, y), "{x:x} and {y:x}");
+    for x in &EDGES {
+        for y in &EDGES {
+            assert!(rt; agrees(*x, *y), "{x:x} and {y:x}");
         }
     }
 }
 
+/// Whether carries, borrows and logic operations set their flags.
+fn sets_flags() -> bool {
+    let up = sum_flags(0xffff_ffff, 0, true);
+    let down = difference_flags(0x8000_0000, 0, true);
+    let logic = logic_flags(0x8000_0000);
+    (up.n, up.z, up.v, up.c) == (false, true, false, true)
+        && (down.n, down.z, down.v, down.c) == (false, false, true, false)
+        && (logic.n, logic.z, logic.v, logic.c) == (true, false, false, false)
+}
+
+/// A word, a count, and the word shifted left, right, and right with its sign.
+const SHIFTS: [(u32, u32, u32, u32, u32); 5] = [
+    (0x8000_0001, 1, 2, 0x4000_0000, 0xc000_0000),
+    (0x8000_0001, 33, 2, 0x4000_0000, 0xc000_0000),
+    (0x7000_0000, 31, 0, 0, 0),
+    (0xf000_0000, 31, 0, 1, 0xffff_ffff),
+    (0x1234_5678, 0, 0x1234_5678, 0x1234_5678, 0x1234_5678),
+];
+
 #[test]
 fn carries_borrows_and_shifts(rt: HostRuntime) {
-    let up = sum_flags(0xffff_ffff, 0, true);
-    assert!(rt; up.z && up.c && !up.n && !up.v);
-    let down = difference_flags(0x8000_0000, 0, true);
-    assert!(rt; down.v && !down.c && !down.n && !down.z);
-    let logic = logic_flags(0x8000_0000);
-    assert!(rt; logic.n && !logic.z && !logic.v && !logic.c);
-    // the word, the count, and the word shifted left, right, and right with its sign
-    for (x, count, left, right, signed) in [
-        (0x8000_0001, 1, 2, 0x4000_0000, 0xc000_0000),
-        (0x8000_0001, 33, 2, 0x4000_0000, 0xc000_0000),
-        (0x7000_0000, 31, 0, 0, 0),
-        (0xf000_0000, 31, 0, 1, 0xffff_ffff),
-        (0x1234_5678, 0, 0x1234_5678, 0x1234_5678, 0x1234_5678),
-    ] {
-        assert_eq!(rt; shift_left(x, count), left);
-        assert_eq!(rt; shift_right(x, count), right);
-        assert_eq!(rt; shift_right_signed(x, count), signed, "{x:x} by {count}");
+    assert!(rt; sets_flags());
+    for (x, count, left, right, signed) in &SHIFTS {
+        let got = (
+            shift_left(*x, *count),
+            shift_right(*x, *count),
+            shift_right_signed(*x, *count),
+        );
+        assert!(rt; got == (*left, *right, *signed), "{x:x} by {count}");
     }
 }

@@ -1,0 +1,336 @@
+//! What instructions make of states: an instruction, a state, and the pieces that come of them, worked by hand.
+
+use crate::systems::Known::{Compared, Nothing, Range, Word};
+use crate::systems::{Row, is_row};
+use abs_state::Next;
+use std::test::Fail;
+
+/// A NOP.
+const NOP: u32 = 0x01000000;
+
+/// Where control goes on behind the instruction at 1000.
+const ONWARD: Next = Next::At(0x1004);
+
+/// Instructions that set cells, those that move the register window, and those that are not modelled.
+const INSTRUCTIONS: [Row; 22] = [
+    Row {
+        name: "nop",
+        words: [0x01000000, NOP],
+        at: (0x1000, ONWARD, 0),
+        known: [Nothing, Nothing, Nothing],
+        callee: None,
+        assertions: "",
+        eight: false,
+        want: "sum 1000; node 1004/0 15=ret; edge 1004/0",
+    },
+    Row {
+        name: "or %o0, %o1, %o2",
+        words: [0x94120009, NOP],
+        at: (0x1000, ONWARD, 0),
+        known: [Word(8, 1), Word(9, 6), Nothing],
+        callee: None,
+        assertions: "",
+        eight: false,
+        want: "sum 1000 10; node 1004/0 8=1 9=6 10=7 15=ret; edge 1004/0",
+    },
+    Row {
+        name: "mov %o7, %o1",
+        words: [0x9210000f, NOP],
+        at: (0x1000, ONWARD, 0),
+        known: [Nothing, Nothing, Nothing],
+        callee: None,
+        assertions: "",
+        eight: false,
+        want: "sum 1000 9; node 1004/0 9=ret 15=ret; edge 1004/0",
+    },
+    Row {
+        name: "add %o0, 3, %o0",
+        words: [0x90022003, NOP],
+        at: (0x1000, ONWARD, 0),
+        known: [Range(8, 0, 255), Nothing, Nothing],
+        callee: None,
+        assertions: "",
+        eight: false,
+        want: "sum 1000 8; node 1004/0 8=1..32767 15=ret; edge 1004/0",
+    },
+    Row {
+        name: "addx %o0, 1, %o1",
+        words: [0x92422001, NOP],
+        at: (0x1000, ONWARD, 0),
+        known: [Word(8, 5), Nothing, Nothing],
+        callee: None,
+        assertions: "",
+        eight: false,
+        want: "sum 1000 9; node 1004/0 8=5 9=6|7 15=ret; edge 1004/0",
+    },
+    Row {
+        name: "mulscc %o0, %o1, %o2",
+        words: [0x95220009, NOP],
+        at: (0x1000, ONWARD, 0),
+        known: [Word(10, 1), Compared(8, 5), Nothing],
+        callee: None,
+        assertions: "",
+        eight: false,
+        want: "sum 1000 10; node 1004/0 15=ret; edge 1004/0",
+    },
+    Row {
+        name: "rd %y, %o0",
+        words: [0x91400000, NOP],
+        at: (0x1000, ONWARD, 0),
+        known: [Word(8, 5), Nothing, Nothing],
+        callee: None,
+        assertions: "",
+        eight: false,
+        want: "sum 1000 8; node 1004/0 15=ret; edge 1004/0",
+    },
+    Row {
+        name: "ldsb [%o0], %o1",
+        words: [0xd24a0000, NOP],
+        at: (0x1000, ONWARD, 0),
+        known: [Nothing, Nothing, Nothing],
+        callee: None,
+        assertions: "",
+        eight: false,
+        want: "sum 1000 9; node 1004/0 9=-128..127 15=ret; edge 1004/0",
+    },
+    Row {
+        name: "ldd [%o0], %o2",
+        words: [0xd41a0000, NOP],
+        at: (0x1000, ONWARD, 0),
+        known: [Word(10, 1), Word(11, 2), Nothing],
+        callee: None,
+        assertions: "",
+        eight: false,
+        want: "sum 1000 10 11; node 1004/0 15=ret; edge 1004/0",
+    },
+    Row {
+        name: "ldd [%o0], %o3",
+        words: [0xd61a0000, NOP],
+        at: (0x1000, ONWARD, 0),
+        known: [Nothing, Nothing, Nothing],
+        callee: None,
+        assertions: "",
+        eight: false,
+        want: "gap 1000 1000 instr",
+    },
+    Row {
+        name: "ld [%o0], %o1",
+        words: [0xd2020000, NOP],
+        at: (0x1000, ONWARD, 0),
+        known: [Word(8, 0x1060), Nothing, Nothing],
+        callee: None,
+        assertions: "",
+        eight: false,
+        want: "sum 1000 9; node 1004/0 8=1060 9=1040 15=ret; edge 1004/0",
+    },
+    Row {
+        name: "ld [%o0], %o1",
+        words: [0xd2020000, NOP],
+        at: (0x1000, ONWARD, 0),
+        known: [Range(8, 4192, 4196), Nothing, Nothing],
+        callee: None,
+        assertions: "",
+        eight: false,
+        want: "sum 1000 9; node 1004/0 8=1060~1064#5 9=1008|1040 15=ret; edge 1004/0",
+    },
+    Row {
+        name: "ld [%o0], %o1",
+        words: [0xd2020000, NOP],
+        at: (0x1000, ONWARD, 0),
+        known: [Word(8, 0x1061), Nothing, Nothing],
+        callee: None,
+        assertions: "",
+        eight: false,
+        want: "sum 1000 9",
+    },
+    Row {
+        name: "save %sp, -96, %sp",
+        words: [0x9de3bfa0, NOP],
+        at: (0x1000, ONWARD, 0),
+        known: [Word(14, 0x1000), Nothing, Nothing],
+        callee: None,
+        assertions: "",
+        eight: false,
+        want: "sum 1000 38; node 1004/1 14=1000 15=ret 38=fa0; edge 1004/1",
+    },
+    Row {
+        name: "save %sp, -96, %sp",
+        words: [0x9de3bfa0, NOP],
+        at: (0x1000, ONWARD, 1),
+        known: [Word(14, 0x1000), Nothing, Nothing],
+        callee: None,
+        assertions: "",
+        eight: false,
+        want: "gap 1000 1000 instr",
+    },
+    Row {
+        name: "restore %g0, 7, %o0",
+        words: [0x91e82007, NOP],
+        at: (0x1000, ONWARD, 1),
+        known: [Nothing, Nothing, Nothing],
+        callee: None,
+        assertions: "",
+        eight: false,
+        want: "sum 1000 8; node 1004/0 8=7 15=ret; edge 1004/0",
+    },
+    Row {
+        name: "restore %g0, 7, %o0",
+        words: [0x91e82007, NOP],
+        at: (0x1000, ONWARD, 0),
+        known: [Nothing, Nothing, Nothing],
+        callee: None,
+        assertions: "",
+        eight: false,
+        want: "gap 1000 1000 instr",
+    },
+    Row {
+        name: "ta 3",
+        words: [0x91d02003, NOP],
+        at: (0x1000, ONWARD, 0),
+        known: [Nothing, Nothing, Nothing],
+        callee: None,
+        assertions: "",
+        eight: false,
+        want: "gap 1000 1000 instr",
+    },
+    Row {
+        name: "unimp 0x12",
+        words: [0x00000012, NOP],
+        at: (0x1000, ONWARD, 0),
+        known: [Nothing, Nothing, Nothing],
+        callee: None,
+        assertions: "",
+        eight: false,
+        want: "gap 1000 1000 instr",
+    },
+    Row {
+        name: "umul %o0, 3, %o1",
+        words: [0x92522003, NOP],
+        at: (0x1000, ONWARD, 0),
+        known: [Word(8, 5), Nothing, Nothing],
+        callee: None,
+        assertions: "",
+        eight: false,
+        want: "gap 1000 1000 instr",
+    },
+    Row {
+        name: "umulcc %o0, 3, %o1",
+        words: [0x92d22003, NOP],
+        at: (0x1000, ONWARD, 0),
+        known: [Word(8, 5), Compared(8, 5), Nothing],
+        callee: None,
+        assertions: "",
+        eight: true,
+        want: "sum 1000 9; node 1004/0 8=5 9=f 15=ret; edge 1004/0",
+    },
+    Row {
+        name: "udiv %o0, 3, %o1",
+        words: [0x92722003, NOP],
+        at: (0x1000, ONWARD, 0),
+        known: [Word(8, 5), Compared(8, 5), Nothing],
+        callee: None,
+        assertions: "",
+        eight: true,
+        want: "sum 1000 9; node 1004/0 8=5 15=ret cmp 8 5; edge 1004/0",
+    },
+];
+
+#[test]
+fn instructions(rt: HostRuntime) -> Result<(), Fail> {
+    for row in &INSTRUCTIONS {
+        assert!(rt; is_row(rt.alloc(), row)?, "{}", row.name);
+    }
+    Ok(())
+}
+
+/// What the condition codes are then known to be.
+const CODES: [Row; 8] = [
+    Row {
+        name: "orcc %g0, 5, %g0",
+        words: [0x80902005, NOP],
+        at: (0x1000, ONWARD, 0),
+        known: [Compared(8, 5), Nothing, Nothing],
+        callee: None,
+        assertions: "",
+        eight: false,
+        want: "sum 1000; node 1004/0 15=ret; edge 1004/0",
+    },
+    Row {
+        name: "orcc %g0, %o0, %g0",
+        words: [0x80900008, NOP],
+        at: (0x1000, ONWARD, 0),
+        known: [Nothing, Nothing, Nothing],
+        callee: None,
+        assertions: "",
+        eight: false,
+        want: "sum 1000; node 1004/0 15=ret cmp 8 0; edge 1004/0",
+    },
+    Row {
+        name: "cmp %o7, 8",
+        words: [0x80a3e008, NOP],
+        at: (0x1000, ONWARD, 0),
+        known: [Nothing, Nothing, Nothing],
+        callee: None,
+        assertions: "",
+        eight: false,
+        want: "sum 1000; node 1004/0 cmp 15 8; edge 1004/0",
+    },
+    Row {
+        name: "cmp %o0, %o1",
+        words: [0x80a20009, NOP],
+        at: (0x1000, ONWARD, 0),
+        known: [Nothing, Nothing, Nothing],
+        callee: None,
+        assertions: "",
+        eight: false,
+        want: "sum 1000; node 1004/0 15=ret cmp 8 cell 9; edge 1004/0",
+    },
+    Row {
+        name: "subcc %o0, 1, %o0",
+        words: [0x90a22001, NOP],
+        at: (0x1000, ONWARD, 0),
+        known: [Word(8, 5), Nothing, Nothing],
+        callee: None,
+        assertions: "",
+        eight: false,
+        want: "sum 1000 8; node 1004/0 8=4 15=ret res 8; edge 1004/0",
+    },
+    Row {
+        name: "subcc %o0, 1, %o2",
+        words: [0x94a22001, NOP],
+        at: (0x1000, ONWARD, 0),
+        known: [Word(8, 5), Nothing, Nothing],
+        callee: None,
+        assertions: "",
+        eight: false,
+        want: "sum 1000 10; node 1004/0 8=5 10=4 15=ret cmp 8 1; edge 1004/0",
+    },
+    Row {
+        name: "andcc %o0, 1, %o1",
+        words: [0x928a2001, NOP],
+        at: (0x1000, ONWARD, 0),
+        known: [Nothing, Nothing, Nothing],
+        callee: None,
+        assertions: "",
+        eight: false,
+        want: "sum 1000 9; node 1004/0 9=0|1 15=ret cmp 9 0; edge 1004/0",
+    },
+    Row {
+        name: "or %g0, 1, %o0",
+        words: [0x90102001, NOP],
+        at: (0x1000, ONWARD, 0),
+        known: [Compared(8, 5), Nothing, Nothing],
+        callee: None,
+        assertions: "",
+        eight: false,
+        want: "sum 1000 8; node 1004/0 8=1 15=ret; edge 1004/0",
+    },
+];
+
+#[test]
+fn condition_codes(rt: HostRuntime) -> Result<(), Fail> {
+    for row in &CODES {
+        assert!(rt; is_row(rt.alloc(), row)?, "{}", row.name);
+    }
+    Ok(())
+}
