@@ -1,4 +1,3 @@
-pub mod Ascii
 pub mod Asks
 pub mod Bounds
 pub mod Graphs

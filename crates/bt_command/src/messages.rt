@@ -4,7 +4,7 @@ ghost use Rattle.bt_command.specs.Status.{counted_text, image_text, why_text, cy
 
 use assert_bind::BindRefusal;
 use assert_lang::{AssertRefusal, Expected};
-use bt_base::{Want, hex8};
+use bt_base::{Want, hex8_text};
 use bt_image::{Counted, ImageRefusal};
 use cycle_table::{CycleRefusal, Why, class_name};
 use std::alloc::Global;
@@ -134,11 +134,7 @@ pub fn parse_text(alloc: Global, refusal: &AssertRefusal) -> Result<String, Want
 fn address_text(alloc: Global, address: u32) -> Result<String, Want>
     ensures { IfOk result (λ text. string_bytes text ≡ address_text address) }
 {
-    let digits = Vec::from_slice(alloc, &hex8(address))?;
-    match String::from_utf8(digits) {
-        Ok(text) => Ok(text),
-        Err(_) => unreachable!(),
-    }
+    hex8_text(alloc, address)
 }
 
 /// Why assertions can't be bound to an image.

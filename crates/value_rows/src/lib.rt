@@ -3,9 +3,13 @@
 #![tactic(auto)]
 
 #[cfg(test)]
+mod chains;
+#[cfg(test)]
 mod lattice;
 #[cfg(test)]
 mod laws;
+#[cfg(test)]
+mod least;
 #[cfg(test)]
 mod monotone;
 #[cfg(test)]
