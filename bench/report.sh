@@ -1,13 +1,13 @@
 #!/bin/sh
 # Times the report of many outcomes: CONTEXTS contexts of one subprogram, each known by another word in %o0 and with REASONS
-# reasons, in an order that isn't the report's. It prints the wall seconds of a small program that makes the outcomes and
+# reasons, in an order that isn't the report's. It prints the processor seconds of a small program that makes the outcomes and
 # their report, the least of three runs, at a quarter, a half and all of the contexts, and beside them those of GNU objdump
 # over a code section of 4,000,000 words where that is found.
 #
 #     bench/report.sh [CONTEXTS [REASONS]]
 #
 # 4096 contexts and 100 reasons if left out. It makes the program in a copy of the crates that it stands on, where rt proves and
-# builds them.
+# builds them. TIMED: such a program, if it stands already; then nothing is proved or built.
 set -eu
 cd "$(dirname "$0")/.."
 top=$(pwd)
@@ -108,19 +108,26 @@ fn main(rt: HostRuntime) -> Result<()> {
 }
 END
 printf '%s\n1\n1\n' "$top/examples/set_point.elf" >"$work/crates/timed/stdin"
-(cd "$work/crates/timed" && rt run <stdin >/dev/null)
+if [ -z "${TIMED:-}" ]; then
+    (cd "$work/crates/timed" && rt run <stdin >/dev/null)
+    TIMED=$work/crates/timed/out/timed
+fi
 python3 bench/make_input.py image 4000000 3 "$work/i"
-python3 - "$work/crates/timed/out/timed" "$top/examples/set_point.elf" "${1:-4096}" "${2:-100}" "$work/i" <<'END'
-import shutil, subprocess, sys, time
+python3 - "$TIMED" "$top/examples/set_point.elf" "${1:-4096}" "${2:-100}" "$work/i" <<'END'
+import resource, shutil, subprocess, sys
 
 program, image, contexts, reasons, code = sys.argv[1], sys.argv[2], int(sys.argv[3]), int(sys.argv[4]), sys.argv[5]
+
+def spent_by_children():
+    used = resource.getrusage(resource.RUSAGE_CHILDREN)
+    return used.ru_utime + used.ru_stime
 
 def least(words, given):
     best, said = None, ""
     for _ in range(3):
-        begin = time.perf_counter()
+        begin = spent_by_children()
         done = subprocess.run(words, input=given, capture_output=True, text=True)
-        spent = time.perf_counter() - begin
+        spent = spent_by_children() - begin
         best = spent if best is None else min(best, spent)
         said = done.stdout if len(done.stdout) < 100 else ""
     return best, said.strip()
