@@ -10,7 +10,9 @@ mod refusal;
 mod reporting;
 mod running;
 mod status;
+mod workers;
 
 pub use inputs::{ASSERTIONS_LIMIT, IMAGE_LIMIT, TABLE_LIMIT};
 pub use running::run_alone;
 pub use status::{AssertFault, LimitFault, Status, exit_of};
+pub use workers::wanted;
