@@ -16,10 +16,13 @@ use crate::judging::{due_graph, judged};
 use crate::{Problem, TaskRefusal};
 use flow_core::{Closed, GrowRefusal};
 use graph_view::View;
+use part_pool::grow;
 use std::alloc::Global;
+use std::sync::Wait;
+use std::thread::Threads;
 use transfer_fns::SparcSystem;
 use wcet_report::Outcomes;
-use worker_pool::grow_alone;
+use worker_pool::{Gate, grow_alone};
 
 /// What an analysis of a problem gives.
 #[derive(Drop)]
@@ -83,5 +86,34 @@ pub fn analyse_alone(alloc: Global, p: &Problem) -> Result<Analysis, TaskRefusal
         → IsErrOf result (TaskRefusal.Contexts count) → (count ≡ 4097) × AreTooManyFor image costs those count }
 {
     let grown = grow_alone(alloc, p.system());
+    answered(alloc, p, grown)
+}
+
+/// Analyses a problem by workers: they grow its due graph together, and one judges it.
+///
+/// The answer is that of `analyse_alone`, for every number of workers, every gate and every order of their work.
+pub fn analyse<R: Threads + Wait + Sync, G: Gate + Sync>(
+    rt: &R,
+    alloc: Global,
+    p: &Problem,
+    workers: u32,
+    gate: &G,
+) -> Result<Analysis, TaskRefusal>
+    requires workers { (1 ≤ workers) × (workers ≤ 64) }
+    ensures graph { (image costs : List ℕ) (those : List BoundAssertion) → IsProblemOf image costs those p.now
+        → IfOk result (λ a. IsGraphOf image costs those a.closed) }
+    ensures view { IfOk result (λ a. a.view ≡ by_kind (keys_of a.closed)) }
+    ensures outcomes { (image costs : List ℕ) (those : List BoundAssertion) → IsProblemOf image costs those p.now
+        → IfOk result (λ a. AreOutcomesOf image costs those a.outcomes) }
+    ensures runs { (image costs : List ℕ) (those : List BoundAssertion) → IsProblemOf image costs those p.now
+        → IfOk result (λ a. HoldOfRunsOf image costs those a.outcomes) }
+    ensures nodes { (image costs : List ℕ) (those : List BoundAssertion) (count : ℕ) → IsProblemOf image costs those p.now
+        → IsErrOf result (TaskRefusal.Nodes count) → (count ≡ 131073) × IsTooBigFor image costs those }
+    ensures unmatched { (image costs : List ℕ) (those : List BoundAssertion) (line : ℕ) → IsProblemOf image costs those p.now
+        → IsErrOf result (TaskRefusal.Unmatched line) → IsFirstUnmatchedOf image costs those line }
+    ensures contexts { (image costs : List ℕ) (those : List BoundAssertion) (count : ℕ) → IsProblemOf image costs those p.now
+        → IsErrOf result (TaskRefusal.Contexts count) → (count ≡ 4097) × AreTooManyFor image costs those count }
+{
+    let grown = grow(rt, alloc, p.system(), workers, gate);
     answered(alloc, p, grown)
 }

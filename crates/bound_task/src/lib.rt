@@ -9,7 +9,7 @@ mod refusal;
 mod returns;
 mod text;
 
-pub use analysis::{Analysis, analyse_alone};
+pub use analysis::{Analysis, analyse, analyse_alone};
 pub use laws::{
     answers_exclude_each_other, first_unmatched_is_one, graph_is_one, graph_text_is_one_of,
     outcomes_hold, too_big_has_no_graph,

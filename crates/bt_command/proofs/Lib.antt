@@ -6,3 +6,4 @@ pub mod Refusals
 pub mod Says
 pub mod Shown
 pub mod Told
+pub mod Wanting

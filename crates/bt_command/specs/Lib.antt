@@ -9,3 +9,4 @@ pub mod Order
 pub mod Program
 pub mod Refusal
 pub mod Status
+pub mod Wanted

@@ -10,7 +10,11 @@ mod refusal;
 mod reporting;
 mod running;
 mod status;
+mod workers;
+mod working;
 
 pub use inputs::{ASSERTIONS_LIMIT, IMAGE_LIMIT, TABLE_LIMIT};
 pub use running::run_alone;
 pub use status::{AssertFault, LimitFault, Status, exit_of};
+pub use workers::wanted;
+pub use working::run;

@@ -91,7 +91,7 @@ fn graph<F: Shelf, K: Sink>(
 }
 
 /// The command `decode`: reads the image, makes its listing and writes it.
-fn decode<F: Shelf, K: Sink>(alloc: Global, image: &str, shelf: &mut F, out: &mut K) -> Status
+pub fn decode<F: Shelf, K: Sink>(alloc: Global, image: &str, shelf: &mut F, out: &mut K) -> Status
     ensures asks { IsReading image.now longest_image (F.asked shelf.old) (F.asked shelf.new) }
     ensures same { TellsTheSame (F.told shelf.old) (F.told shelf.new) }
     ensures counts { NoneFalls (F.faults shelf.old) (F.faults shelf.new) }
