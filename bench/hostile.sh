@@ -1,23 +1,24 @@
 #!/bin/sh
-# Hostile inputs, outside the gate: runs the program on damaged files, random code, names that aren't files, and outputs that
-# fail, and says how many runs ended with which status, and the greatest time and memory of one run. It ends with status 1
-# where a run ended in another way than with a status and a message, or past a limit of 20 seconds or 3.4 GB.
+# Hostile inputs, outside the gate: runs the program on damaged files, random code, names that aren't files, outputs that
+# fail, and files at each limit and one past it, and says how many runs ended with which status, and the greatest time of
+# the processor and memory of one run. It ends with status 1 where a run ended in another way than with a status and a
+# message, or past its limit: 20 seconds, or 600 for a file at a limit, and 3.4 GB.
 #
 #     bench/hostile.sh [EXECUTABLE] [COUNT]
 #
 # EXECUTABLE: what is damaged, examples/driver.elf if none is given; beside it stands its .assert. COUNT: how many images of
 # random code are tried, 200 if not given. BOUNDT: the program; else crates/boundt/out/boundt, which is proved and built first
-# where it isn't there.
+# where it isn't there. LIMITS=no leaves out the files at a limit, which take some minutes.
 set -eu
 cd "$(dirname "$0")/.."
 boundt=${BOUNDT:-crates/boundt/out/boundt}
 if [ ! -x "$boundt" ]; then
     (cd crates/boundt && rt run -- decode ../../examples/set_point.elf >/dev/null)
 fi
-exec python3 - "$boundt" "${1:-examples/driver.elf}" "${2:-200}" <<'END'
-import collections, os, random, re, resource, struct, subprocess, sys, tempfile, time
+exec python3 - "$boundt" "${1:-examples/driver.elf}" "${2:-200}" "${LIMITS:-yes}" <<'END'
+import collections, os, random, re, resource, shutil, struct, subprocess, sys, tempfile, threading
 
-PROGRAM, IMAGE, COUNT = os.path.abspath(sys.argv[1]), os.path.abspath(sys.argv[2]), int(sys.argv[3])
+PROGRAM, IMAGE, COUNT, LIMITS = os.path.abspath(sys.argv[1]), os.path.abspath(sys.argv[2]), int(sys.argv[3]), sys.argv[4] != "no"
 ASSERTIONS, TABLE = IMAGE[: -len(".elf")] + ".assert", os.path.abspath("examples/erc32.cycles")
 SECONDS, BYTES = 20, 3_400_000_000
 MESSAGE = re.compile(rb"boundt: (\d+)( [A-Za-z0-9]+)*\n")
@@ -26,26 +27,37 @@ MESSAGE = re.compile(rb"boundt: (\d+)( [A-Za-z0-9]+)*\n")
 class Tally:
     """What was seen of the runs of one kind."""
 
-    def __init__(self, name):
-        self.name, self.runs, self.statuses, self.seconds, self.bytes, self.bad = name, 0, collections.Counter(), 0.0, 0, []
+    def __init__(self, name, seconds=SECONDS):
+        self.name, self.limit = name, seconds
+        self.runs, self.statuses, self.seconds, self.bytes, self.bad = 0, collections.Counter(), 0.0, 0, []
 
-    def run(self, words, what="", **ends):
-        """One run; what it writes is thrown away where `ends` gives no other place."""
-        begin = time.perf_counter()
+    def run(self, words, what="", expected=None, closed=(), **ends):
+        """One run, with these of its three ends closed; what it writes is thrown away where `ends` gives no other place."""
+
+        def begin():
+            resource.setrlimit(resource.RLIMIT_CPU, (self.limit, self.limit))
+            for end in closed:
+                os.close(end)
+
         with tempfile.TemporaryFile() as errors:
             given = {"stdin": subprocess.DEVNULL, "stdout": subprocess.DEVNULL, "stderr": errors, **ends}
-            child = subprocess.Popen([PROGRAM, *words], preexec_fn=lambda: resource.setrlimit(resource.RLIMIT_CPU, (SECONDS, SECONDS)), **given)
+            child = subprocess.Popen([PROGRAM, *words], preexec_fn=begin, **given)
+            # A run that waits for ever is ended too; other programs may want the processor, so it has much longer.
+            timer = threading.Timer(20 * self.limit, child.kill)
+            timer.start()
             _, status, used = os.wait4(child.pid, 0)
+            timer.cancel()
             errors.seek(0)
             said = errors.read()
-        self.runs += 1
-        self.seconds = max(self.seconds, time.perf_counter() - begin)
-        self.bytes = max(self.bytes, used.ru_maxrss * 1024)
         code = os.waitstatus_to_exitcode(status)
+        self.runs += 1
         self.statuses[code] += 1
+        self.seconds = max(self.seconds, used.ru_utime + used.ru_stime)
+        self.bytes = max(self.bytes, used.ru_maxrss * 1024)
         whole = MESSAGE.fullmatch(said)
-        told = "stderr" in ends or (not said if code in (0, 1) else whole is not None and int(whole[1]) == code)
-        if not 0 <= code <= 9 or not told or used.ru_maxrss * 1024 > BYTES:
+        told = "stderr" in ends or 2 in closed or (not said if code in (0, 1) else whole is not None and int(whole[1]) == code)
+        wanted = expected is None or said.decode() == (f"boundt: {expected}\n" if expected else "")
+        if not 0 <= code <= 9 or not told or not wanted or used.ru_maxrss * 1024 > BYTES:
             self.bad.append(f"{what}: status {code}, {said[:80]!r}")
 
     def told(self):
@@ -68,19 +80,51 @@ def header_bytes(data):
     return places
 
 
-def random_image(random):
-    """Valid headers round random words of code; half of the words are drawn from common instructions."""
-    common = [0x81C3E008, 0x01000000, 0x9DE3BFA0, 0x81C7E008, 0x81E80000, 0x12BFFFFE, 0x02800004, 0x7FFFFFFA, 0x40000004, 0x80A22005, 0x90022001,
-              0x81C06000, 0xC2008001, 0x30800003, 0x9FC04000, 0x832A2002]
-    words = [random.choice(common) if random.random() < 0.7 else random.getrandbits(32) for _ in range(random.randrange(2, 200))]
-    text = struct.pack(">%dI" % len(words), *words)
-    table = bytes(16) + struct.pack(">IIIBBH", 1, 0x02000000, len(text), 0x12, 0, 1)
-    names = b"\0f\0\0"
+def image(words, functions=(("f", 0),), symbols=0, sections=0):
+    """Sound headers round words of code at 02000000: functions by name and word, further symbols, and further sections."""
+    text, table, names = struct.pack(">%dI" % len(words), *words), bytes(16), b"\0"
+    for name, word in functions:
+        table += struct.pack(">IIIBBH", len(names), 0x02000000 + 4 * word, 4, 0x12, 0, 1)
+        names += name.encode() + b"\0"
+    table += bytes(16 * symbols)
     places = [52, 52 + len(text), 52 + len(text) + len(table)]
-    out = b"\x7fELF\x01\x02\x01" + bytes(9) + struct.pack(">HHIIIIIHHHHHH", 2, 2, 1, 0x02000000, 0, places[2] + 4, 0, 52, 0, 0, 40, 4, 3)
+    out = b"\x7fELF\x01\x02\x01" + bytes(9)
+    out += struct.pack(">HHIIIIIHHHHHH", 2, 2, 1, 0x02000000, 0, places[2] + len(names), 0, 52, 0, 0, 40, 4 + sections, 3)
     out += text + table + names + bytes(40) + struct.pack(">10I", 0, 1, 6, 0x02000000, 52, len(text), 0, 0, 4, 0)
-    out += struct.pack(">10I", 0, 2, 0, 0, places[1], len(table), 3, 1, 4, 16) + struct.pack(">10I", 0, 3, 0, 0, places[2], 4, 0, 0, 1, 0)
-    return out
+    out += struct.pack(">10I", 0, 2, 0, 0, places[1], len(table), 3, 1, 4, 16)
+    return out + struct.pack(">10I", 0, 3, 0, 0, places[2], len(names), 0, 0, 1, 0) + bytes(40 * sections)
+
+
+def random_image(random, common):
+    """Sound headers round random words of code; this part of them is drawn from common instructions."""
+    known = [0x81C3E008, 0x01000000, 0x9DE3BFA0, 0x81C7E008, 0x81E80000, 0x12BFFFFE, 0x02800004, 0x7FFFFFFA, 0x40000004, 0x80A22005, 0x90022001,
+             0x81C06000, 0xC2008001, 0x30800003, 0x9FC04000, 0x832A2002]
+    return image([random.choice(known) if random.random() < common else random.getrandbits(32) for _ in range(random.randrange(2, 200))])
+
+
+def called_with(count):
+    """A loop that counts its argument down, called with so many constants and with a word that is loaded."""
+    words = [0x90A22001, 0x12BFFFFF, 0x01000000, 0x81C3E008, 0x01000000, 0x9DE3BFA0]
+    for argument in [*range(0x90102000, 0x90102000 + count), 0xD0062000]:
+        words += [0x40000000 | -len(words) & 0x3FFFFFFF, argument]
+    return image(words + [0x81C7E008, 0x81E80000], [("g", 0), ("f", 5)])
+
+
+def at_limits():
+    """What is at a limit or past it by one: what it is, the image, what is behind the table, the assertions, and the message."""
+    nop, leaf = 0x01000000, [0x81C3E008, 0x01000000]
+    for past in (0, 1):
+        yield "nodes", image([nop] * (131071 + 2 * past)), b"", b"root f\n", past and "9 Nodes count 131073"
+        yield "contexts", called_with(4094 + past), b"", b"root f\n", past and "9 Contexts count 4097"
+        yield "functions", image([nop] * 20000, [("f", k) for k in range(16384 + past)]), b"", b"", past and "3 Limit what Functions count 16385"
+        yield "symbols", image(leaf, symbols=262142 + past), b"", b"root f\n", past and "3 Limit what Symbols count 262145"
+        yield "sections", image(leaf, sections=1020 + past), b"", b"root f\n", past and "3 Limit what Sections count 1025"
+        never = b"".join(b"never 0x%08x\n" % (0x02000008 + 4 * k) for k in range(4095 + past))
+        yield "statements", image(leaf + [nop] * 5000), b"", b"root f\n" + never, past and "5 Limit count 4097"
+        yield "image", image(leaf).ljust(16777216 + past, b"\0"), b"", b"root f\n", past and "9 TooLong file 1 limit 16777216"
+        size = os.path.getsize(TABLE)
+        yield "table", image(leaf), b"#" * (1048576 + past - size), b"root f\n", past and "9 TooLong file 2 limit 1048576"
+        yield "assertions", image(leaf), b"", b"root f\n".ljust(1048576 + past, b"#"), past and "9 TooLong file 3 limit 1048576"
 
 
 def main():
@@ -88,7 +132,7 @@ def main():
     data = open(IMAGE, "rb").read()
     file, root = os.path.join(work, "image"), os.path.join(work, "assertions")
     open(root, "w").write("root f\n")
-    print("| What | Runs | Statuses | Greatest seconds | Greatest MB |\n|---|---|---|---|---|")
+    print("| What | Runs | Statuses | Greatest seconds of the processor | Greatest MB |\n|---|---|---|---|---|")
 
     tally = Tally("each byte of headers and symbols as 0, ff, its complement")
     for place in header_bytes(data):
@@ -105,11 +149,12 @@ def main():
 
     draw = random.Random(1)
     for command in ("bound", "graph", "decode"):
-        tally = Tally(f"`{command}` on random code behind sound headers")
-        for n in range(COUNT):
-            open(file, "wb").write(random_image(draw))
-            tally.run([command, file] + [TABLE, root] * (command != "decode"), f"image {n}")
-        bad += tally.told()
+        for common, kind in ((0.7, "common and random instructions"), (0.0, "random bytes")):
+            tally = Tally(f"`{command}` on {kind} behind sound headers")
+            for n in range(COUNT):
+                open(file, "wb").write(random_image(draw, common))
+                tally.run([command, file] + [TABLE, root] * (command != "decode"), f"image {n}")
+            bad += tally.told()
 
     tally = Tally("random bytes as each of the three files")
     for n in range(COUNT):
@@ -134,24 +179,33 @@ def main():
         tally.run(words, str(words)[:60])
     bad += tally.told()
 
-    tally = Tally("an output that is full or closed")
-    full = os.open("/dev/full", os.O_WRONLY)
-    for command in (["bound", IMAGE, TABLE, ASSERTIONS], ["graph", IMAGE, TABLE, ASSERTIONS], ["decode", IMAGE]):
-        tally.run(command, "/dev/full", stdout=full)
+    tally = Tally("an output that is full, or a pipe that nobody reads")
+    unread, write = os.pipe()
+    os.close(unread)
+    for end in (os.open("/dev/full", os.O_WRONLY), write):
+        for command in (["bound", IMAGE, TABLE, ASSERTIONS], ["graph", IMAGE, TABLE, ASSERTIONS], ["decode", IMAGE]):
+            tally.run(command, "an output", "7 WriteFault written 0", stdout=end)
+        tally.run(["bound", IMAGE, TABLE, IMAGE], "an error", stderr=end)
+        os.close(end)
     bad += tally.told()
-    os.close(full)
 
-    tally = Tally("standard output and standard error closed")
-    for command in (["bound", IMAGE, TABLE, ASSERTIONS], ["bound", IMAGE, TABLE, IMAGE], ["decode", IMAGE]):
-        for closed in (">&-", "2>&-", ">&- 2>&-"):
-            begin = time.perf_counter()
-            code = subprocess.run(["sh", "-c", f'"$0" "$@" {closed}', PROGRAM, *command], capture_output=True, timeout=SECONDS).returncode
-            tally.runs += 1
-            tally.statuses[code] += 1
-            tally.seconds = max(tally.seconds, time.perf_counter() - begin)
-            if not 0 <= code <= 9:
-                tally.bad.append(f"{closed}: status {code}")
+    tally = Tally("standard input, output and error closed")
+    for command in (["bound", IMAGE, TABLE, ASSERTIONS], ["bound", IMAGE, TABLE, IMAGE], ["graph", IMAGE, TABLE, ASSERTIONS], ["decode", IMAGE]):
+        for closed in ((0,), (1,), (2,), (0, 1), (1, 2), (0, 2), (0, 1, 2)):
+            tally.run(command, f"{closed} closed", closed=closed)
     bad += tally.told()
+
+    if LIMITS:
+        tally = Tally("files at each limit and one past it", 600)
+        table, statements = os.path.join(work, "table"), os.path.join(work, "statements")
+        for what, bytes_, further, text, message in at_limits():
+            open(file, "wb").write(bytes_)
+            open(table, "wb").write(open(TABLE, "rb").read() + further)
+            open(statements, "wb").write(text)
+            for command in ("bound", "graph"):
+                tally.run([command, file, table, statements], f"{what}, `{command}`", message or None)
+        bad += tally.told()
+    shutil.rmtree(work)
     sys.exit(1 if bad else 0)
 
 
