@@ -5,6 +5,12 @@
 #[cfg(test)]
 mod board;
 #[cfg(test)]
+mod growing;
+#[cfg(test)]
 mod parts;
 #[cfg(test)]
 mod pools;
+#[cfg(test)]
+mod programs;
+#[cfg(test)]
+mod rings;
