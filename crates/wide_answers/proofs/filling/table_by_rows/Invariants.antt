@@ -4,4 +4,4 @@ use Rattle.wide_answers.proofs.filling.table_by_rows.Given as goal
 
 -- the table is right
 abbrev pub invariant-loop-numbers : goal.invariant-loop-numbers
-invariant-loop-numbers l = AreFilled (setting_in l.listing) l.listing.found.now l.table.items
+invariant-loop-numbers g l = AreFilled (setting_in l.listing) l.listing.found.now l.table.items
