@@ -12,6 +12,7 @@ use Rattle.counter_bound.specs.Counts.{HasNest, CellCounts}
 use Rattle.counter_bound.specs.declared.change.Change.{Change}
 use Rattle.counter_bound.specs.declared.change.Change.TheVariants.{Add, Other}
 use Rattle.counter_bound.specs.declared.touching.Touched.{Touched}
+use Rattle.counter_bound.proofs.Inner.{any_at, find, or_true}
 use Rattle.counter_bound.proofs.Bodies.{body_is, head_has, head_in, loops_are, rising}
 use Rattle.graph_laws.specs.Walk.{AreInside, total}
 use Rattle.graph_laws.proofs.Nests.{two_true}
@@ -29,35 +30,6 @@ use Rattle.turn_sums.proofs.Lists.{has_at}
 
 pub some_same : {A : Type 0} {x y : A} → Some x ≡ Some y → x ≡ y
 some_same e = cc
-
-pub or_true : (b : Bool) → (b || true) ≡ true
-or_true true = refl
-or_true false = refl
-
--- a loop of a list that passes a test
-record IsFound (loops : List Loop) (passes : Loop → Bool) : Type 0 where
-  pub place : ℕ
-  pub two : Loop
-  pub at : slice_get loops place ≡ Some two
-  pub test : passes two ≡ true
-
-later : (y : Loop) (loops : List Loop) (test : Loop → Bool) → IsFound loops test → IsFound (y ∷ loops) test
-later y loops test f = record { place = suc f.place; two = f.two; at = f.at; test = f.test }
-
-find_by : (b : Bool) (y : Loop) (loops : List Loop) (test : Loop → Bool) → test y ≡ b → (list_any test loops ≡ true → IsFound loops test)
-    → (b || list_any test loops) ≡ true → IsFound (y ∷ loops) test
-find_by true y loops test e on t = record { place = 0; two = y; at = refl; test = e }
-find_by false y loops test e on t = later y loops test (on t)
-
-find : (loops : List Loop) (test : Loop → Bool) → list_any test loops ≡ true → IsFound loops test
-find [] test t = cc
-find (y ∷ loops) test t = find_by (test y) y loops test refl (find loops test) t
-
--- one that passes it is found
-any_at : (xs : List Loop) (i : ℕ) (x : Loop) → slice_get xs i ≡ Some x → (p : Loop → Bool) → p x ≡ true → list_any p xs ≡ true
-any_at [] i x e p t = cc
-any_at (y ∷ xs) zero x e p t = let s : y ≡ x = some_same e in ap (λ (b : Bool). b || list_any p xs) (ap p s ∙ t)
-any_at (y ∷ xs) (suc i) x e p t = ap (λ (b : Bool). p y || b) (any_at xs i x e p t) ∙ or_true (p y)
 
 -- some node of a list has a number
 record HasSome (body : ℕ → Bool) (number : ℕ → ℕ) : Type 0 where

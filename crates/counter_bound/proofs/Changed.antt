@@ -6,7 +6,8 @@ use Rattle.call_effects.specs.Mask.{has_cell}
 use Rattle.counter_bound.specs.Body.{is_marked, adds_outside, spoils, IsSpoilt, AreTouched}
 use Rattle.counter_bound.specs.declared.change.Change.{Change}
 use Rattle.counter_bound.specs.declared.touching.Touched.{Touched}
-use Rattle.counter_bound.proofs.Candidates.{some_same, or_true}
+use Rattle.counter_bound.proofs.Candidates.{some_same}
+use Rattle.counter_bound.proofs.Inner.{or_true}
 
 first_true : (new old more : Bool) → new ≡ (old || more) → old ≡ true → new ≡ true
 first_true new old more e t = e ∙ ap (λ (b : Bool). b || more) t

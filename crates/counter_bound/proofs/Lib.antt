@@ -5,6 +5,7 @@ pub mod Candidates
 pub mod Changed
 pub mod Counters
 pub mod Ends
+pub mod Inner
 pub mod Moving
 pub mod Places
 pub mod Pushing

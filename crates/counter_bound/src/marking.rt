@@ -1,10 +1,10 @@
-ghost use Rattle.std.specs.Prelude.{◌≡◌, ◌==◌, ◌&&◌, ◌||◌, ◌<◌, ℕ, not, true, false, length, slice_get, slice_index, replicate, Some, IfOk};
+ghost use Rattle.std.specs.Prelude.{◌≡◌, ◌==◌, ◌||◌, ◌<◌, ◌≤◌, ℕ, false, [], ◌∷◌, length, slice_index, slice_index_or, nat_lt, replicate, IfOk};
 ghost use Rattle.std.specs.List.Sorted.{IsStrictlyIncreasing};
 ghost use Rattle.bt_base.specs.Graph.{has};
-ghost use Rattle.counter_bound.specs.Body.{is_marked, is_inside, AreInner};
+ghost use Rattle.counter_bound.specs.Body.{is_marked, is_inner, AreInner};
+ghost use Rattle.loop_nest.specs.LoopNest.{HeadsRise};
 ghost use Rattle.loop_nest.specs.declared.natural_loop.Loop.{Loop as ALoop};
 
-use crate::placing::holds;
 use bt_base::Want;
 use loop_nest::Loop;
 use std::alloc::Global;
@@ -31,14 +31,44 @@ fn mark_all(body: &[u32], marks: &mut [bool], nodes: &[u32])
     }
 }
 
-/// Marks the nodes of a loop, if it is inside another one.
-fn mark_loop(head: u32, body: &[u32], marks: &mut [bool], one: &Loop)
+/// How many loops have heads below one.
+fn heads_below(loops: &[Loop], head: u32) -> usize
+    requires { HeadsRise loops.now }
+    ensures within { result ≤ length loops.now }
+    ensures below { (k : ℕ) (d : ALoop) → k < result → (slice_index_or loops.now k d).head < head }
+    ensures above { (k : ℕ) (d : ALoop) → result ≤ k → k < length loops.now → head ≤ (slice_index_or loops.now k d).head }
+{
+    loops.partition_point(
+        |one: &Loop| -> bool
+            ensures { result ≡ nat_lt one.now.head head }
+        { one.head < head },
+    )
+}
+
+/// Marks the nodes of the loop of a node, if it is a head other than the one whose body this is.
+fn mark_loop(head: u32, body: &[u32], marks: &mut [bool], loops: &[Loop], node: u32)
+    requires heads { HeadsRise loops.now }
     requires rising { IsStrictlyIncreasing body.now }
     requires count { length marks.old ≡ length body.now }
-    ensures { (i : ℕ) → i < length body.now → is_marked marks.new i ≡ (is_marked marks.old i || is_inside head body.now one.now (slice_index body.now i)) }
+    ensures { (i : ℕ) → i < length body.now
+        → is_marked marks.new i ≡ (is_marked marks.old i || is_inner loops.now head (node ∷ []) (slice_index body.now i)) }
 {
-    if one.head != head && holds(body, one.head) {
-        mark_all(body, marks, &one.body);
+    let place = heads_below(loops, node);
+    if place < loops.len() && loops[place].head == node && node != head {
+        mark_all(body, marks, &loops[place].body);
+    }
+}
+
+/// Marks the nodes of the loops whose heads are in a body, other than the one whose body this is.
+fn mark_loops(head: u32, body: &[u32], marks: &mut [bool], loops: &[Loop])
+    requires heads { HeadsRise loops.now }
+    requires rising { IsStrictlyIncreasing body.now }
+    requires count { length marks.old ≡ length body.now }
+    ensures { (i : ℕ) → i < length body.now
+        → is_marked marks.new i ≡ (is_marked marks.old i || is_inner loops.now head body.now (slice_index body.now i)) }
+{
+    for node in body {
+        mark_loop(head, body, marks, loops, *node);
     }
 }
 
@@ -49,19 +79,18 @@ fn no_marks(alloc: Global, count: usize) -> Result<Vec<bool>, Want>
     Ok(vec![in alloc; false; count]?)
 }
 
-/// For each node of a loop's body whether it is in a loop inside.
+/// For each node of a loop's body whether it is in a loop inside: those of the heads in the body.
 pub(crate) fn inner_marks(
     alloc: Global,
     loops: &[Loop],
     head: u32,
     body: &[u32],
 ) -> Result<Vec<bool>, Want>
+    requires heads { HeadsRise loops.now }
     requires rising { IsStrictlyIncreasing body.now }
     ensures { IfOk result (λ marks. AreInner loops.now head body.now marks.items) }
 {
     let mut marks = no_marks(alloc, body.len())?;
-    for one in loops {
-        mark_loop(head, body, &mut marks, one);
-    }
+    mark_loops(head, body, &mut marks, loops);
     Ok(marks)
 }

@@ -20,14 +20,6 @@ pub(crate) fn place_in(body: &[u32], node: u32) -> u32
     }
 }
 
-/// Whether a node is in a body.
-pub(crate) fn holds(body: &[u32], node: u32) -> bool
-    requires { IsStrictlyIncreasing body.now }
-    ensures { result ≡ has body.now node }
-{
-    body.binary_search(&node).is_ok()
-}
-
 /// Adds an edge between two places to the graph of a body, where the node to which it leads is in the body.
 fn add_edge(body: &[u32], small: &mut Graph, place: u32, next: u32) -> Result<(), Want>
     requires rising { IsStrictlyIncreasing body.now }

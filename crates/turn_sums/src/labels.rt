@@ -142,10 +142,32 @@ fn relax_all(
     changed
 }
 
+/// Lowers what the labels of some nodes ask, one after the other.
+fn relax_in_order(
+    graph: &Graph,
+    head: u32,
+    ups: &[u32],
+    downs: &[u32],
+    labels: &mut [Option<u128>],
+    order: &[u32],
+)
+    requires order { (n : ℕ) → has order.now n ≡ true → n < length graph.now }
+    requires ups { length ups.now ≡ length graph.now }
+    requires downs { length downs.now ≡ length graph.now }
+    requires labels { length labels.old ≡ length graph.now }
+    requires found { AreFound (is_edge graph.now) head (steps_of ups.now downs.now) labels.old }
+    requires balanced { AreBalanced (is_edge graph.now) head (steps_of ups.now downs.now) }
+    ensures { AreFound (is_edge graph.now) head (steps_of ups.now downs.now) labels.new }
+{
+    for node in order {
+        let _changed = relax_node(graph, head, ups, downs, labels, *node, false);
+    }
+}
+
 /// Lowers what all labels ask, round by round, until all that is asked is met.
 ///
-/// As many rounds as there are nodes are enough. Where each node comes behind those that lead to it, but for edges that
-/// lead back into a loop, one round does the work, and a second one sees that nothing is left to do.
+/// As many rounds as there are nodes are enough. Where little is left to ask, one round does the work, and a second one sees
+/// that nothing is left to do.
 fn settle(graph: &Graph, head: u32, ups: &[u32], downs: &[u32], labels: &mut [Option<u128>])
     requires ups { length ups.now ≡ length graph.now }
     requires downs { length downs.now ≡ length graph.now }
@@ -237,14 +259,17 @@ fn first_labels(alloc: Global, count: u32, head: u32) -> Result<Vec<Option<u128>
 }
 
 /// The least sum of a turn of a loop, if there is a turn. The graph is that of the loop's body; `ups` has what each node
-/// adds, and `downs` what it takes. The sum is counted from 2^70.
+/// adds, and `downs` what it takes. The sum is counted from 2^70. The nodes are gone through in an order first, on which nothing
+/// but speed rests.
 pub(crate) fn least_sum(
     alloc: Global,
     graph: &Graph,
     head: u32,
     ups: &[u32],
     downs: &[u32],
+    order: &[u32],
 ) -> Result<Option<u128>, Want>
+    requires order { (n : ℕ) → has order.now n ≡ true → n < length graph.now }
     requires head { head < length graph.now }
     requires ups { length ups.now ≡ length graph.now }
     requires downs { length downs.now ≡ length graph.now }
@@ -252,6 +277,7 @@ pub(crate) fn least_sum(
     ensures { IfOk result (λ least. IsLeastTurn (is_edge graph.now) all_nodes head (steps_of ups.now downs.now) least) }
 {
     let mut labels = first_labels(alloc, graph.count(), head)?;
+    relax_in_order(graph, head, ups, downs, &mut labels, order);
     settle(graph, head, ups, downs, &mut labels);
     Ok(least_turn(graph, head, ups, downs, &labels))
 }

@@ -1,12 +1,15 @@
 use Rattle.std.proofs.Common.{◌<◌, ℕ, List, length, sym, ap, subst, ◌∙◌, arith}
 use Rattle.std.specs.List.Sorted.{IsStrictlyIncreasing}
 use Rattle.bt_base.specs.Graph.{has}
+use Rattle.loop_nest.specs.LoopNest.{HeadsRise}
+use Rattle.loop_nest.specs.declared.natural_loop.Loop.{Loop}
 use Rattle.counter_bound.proofs.Bodies.{rising, nodes_below}
 use Rattle.counter_bound.proofs.Candidates.{borrowed_are}
 use Rattle.counter_bound.proofs.bounding.candidates.Goals as goal
 
 pub inner_marks-requires : goal.inner_marks-requires
 inner_marks-requires c = record {
+  heads = subst (λ (l : List Loop). HeadsRise l) (sym c.loops.ensures) c.requires.nest.nest.rising;
   rising = subst (λ (l : List ℕ). IsStrictlyIncreasing l) (sym c.deref.ensures.value)
       (rising c.args.graph.now c.args.nest.now c.requires.nest c.requires.number.0 c.args.one.now c.requires.number.1);
 }
