@@ -32,4 +32,4 @@ runs_spend_outcomes S list told known root first rest last run within before pla
 pub bounded_runs_spend : BoundedRunsSpend
 bounded_runs_spend S list told known root first rest run has place low =
     runs_spend_outcomes S list told known root first rest (length rest) run (omega arith)
-    (bounded_roots_meet_no_gap S list told known root first rest run has) place low
+    (λ i less top below are plain. bounded_roots_meet_no_gap S list told known root first rest run has i (omega (arith, less)) top below are plain) place low

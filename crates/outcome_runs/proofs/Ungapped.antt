@@ -157,7 +157,7 @@ module _ (S : Setting) (list : List Outcome) (told : Told S list) (known : IsKno
     clear_stack invalid due top below m (inr beneath) plain ends =
         absurd (not_plain S.binding beneath.inner beneath.lowest (beneath.below ∷ beneath.rest) beneath.stub (subst (ArePlain S.binding) beneath.are plain))
 
-    before_gaps : (n : ℕ) → n ≤ length rest → IsBeforeGaps S.image S.binding (facts_in S) first rest n
+    before_gaps : (n : ℕ) → n ≤ suc (length rest) → IsBeforeGaps S.image S.binding (facts_in S) first rest n
     before_gaps zero within i low top below are plain = absurd (omega (arith, low))
     before_gaps (suc n) within i low top below are plain = elim (cases_lt i n) [
       | inl less ↦ before_gaps n (omega (arith, within)) i less top below are plain
@@ -179,4 +179,4 @@ module _ (S : Setting) (list : List Outcome) (told : Told S list) (known : IsKno
     ]
 
 pub bounded_roots_meet_no_gap : BoundedRootsMeetNoGap
-bounded_roots_meet_no_gap S list told known root first rest run has = before_gaps S list told known root first rest run has (length rest) (omega arith)
+bounded_roots_meet_no_gap S list told known root first rest run has = before_gaps S list told known root first rest run has (suc (length rest)) (omega arith)

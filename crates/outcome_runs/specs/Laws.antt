@@ -1,5 +1,5 @@
 -- What outcomes say of runs.
-use Rattle.std.specs.Prelude.{◌≡◌, ℕ, ◌<◌, ◌≤◌, List, length, Some, is_some, true}
+use Rattle.std.specs.Prelude.{◌≡◌, ℕ, suc, ◌<◌, ◌≤◌, List, length, Some, is_some, true}
 use Rattle.context_runs.specs.Contexts.{AreFilled}
 use Rattle.context_runs.specs.Joined.{KeepsContexts, PoppedSpent}
 use Rattle.context_steps.specs.Followed.{AreContexts}
@@ -63,12 +63,12 @@ pub record HasBoundAt {S : Setting} {list : List Outcome} (told : Told S list) (
   pub is : IsRootAt told.entries root place
   pub bounded : is_some is.entry.outcome.bound ≡ true
 
--- A run from a root whose context has a bound never stands at a gap, so all of it is bounded.
+-- No machine of a run from a root whose context has a bound stands at a gap, the last one neither, so all of it is bounded.
 abbrev pub BoundedRootsMeetNoGap : Type 0
 BoundedRootsMeetNoGap =
     (S : Setting) (list : List Outcome) (told : Told S list) → IsKnown S → (root : ℕ) (first : Machine) (rest : List Machine)
     → IsRun S.image S.costs S.binding (heads_of (contexts_of told) (address_of told)) root first rest → HasBoundAt told root
-    → IsBeforeGaps S.image S.binding (facts_in S) first rest (length rest)
+    → IsBeforeGaps S.image S.binding (facts_in S) first rest (suc (length rest))
 
 -- So each frame of the whole run has spent at most the bound that is told of its context, and so has the root's when it is popped.
 abbrev pub BoundedRunsSpend : Type 0

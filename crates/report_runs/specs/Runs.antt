@@ -35,11 +35,11 @@ pub record AreFollowed {S : Setting} {list : List Outcome} (told : Told S list) 
   pub keeps : (place : ℕ) → place ≤ last → KeepsContexts (contexts_of told) S.image S.costs S.binding first rest place
   pub pops : (place : ℕ) → place < last → PoppedSpent (contexts_of told) S.image first rest place
 
--- A run spends at most so many cycles from its first machine on: none of its machines from which a step is taken stands at a
--- gap; at each machine without a stub's frame, as long as the root's frame is there, and at the pop of the root's frame, no
--- more cycles have passed.
+-- A run spends at most so many cycles from its first machine on: none of its machines stands at a gap, the last one neither;
+-- at each machine without a stub's frame, as long as the root's frame is there, and at the pop of the root's frame, no more
+-- cycles have passed.
 pub record SpendsAtMost (S : Setting) (first : Machine) (rest : List Machine) (bound : ℕ) : Type 0 where
-  pub no_gap : MeetsNoGap S first rest (length rest)
+  pub no_gap : MeetsNoGap S first rest (suc (length rest))
   pub spends : (place : ℕ) → place ≤ length rest → frames_at S.image first rest place ≢ [] → ArePlain S.binding (frames_at S.image first rest place)
       → (machine_at S.image first rest place).cycles ≤ first.cycles + bound
   pub pops : (place : ℕ) → place < length rest → due_at S.image first rest place ≡ Returns
