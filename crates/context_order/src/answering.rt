@@ -3,12 +3,13 @@ ghost use Rattle.std.specs.Prelude.{◌≡◌, IfOk, length};
 ghost use Rattle.std.specs.Map.{keys_of};
 ghost use Rattle.context_bounds.specs.Setting.{setting_of};
 ghost use Rattle.context_order.specs.Answered.{AreAnswers};
+ghost use Rattle.context_order.specs.Filled.{AreFilled};
 ghost use Rattle.context_order.specs.Opened.{AreOpened};
 ghost use Rattle.graph_view.specs.View.{by_kind};
 
 use crate::opened::Opened;
 use crate::ordering::order;
-use crate::rounds::filled_table;
+use crate::rounds::{filled_table, first_table};
 use crate::taking::taken;
 use abs_state::Key;
 use bt_base::Want;
@@ -20,6 +21,28 @@ use graph_view::View;
 use std::alloc::Global;
 use transfer_fns::SparcSystem;
 use transfer_rules::Fact;
+
+/// What each context of a list comes to, in their order, where a table has the answers of some. The others are worked out.
+pub fn completed(
+    alloc: Global,
+    system: &SparcSystem,
+    cycles: &Cycles,
+    whole: &Facts<Key, Fact>,
+    view: &View,
+    found: &Found,
+    opened: &[Opened],
+    table: Vec<Option<Answer>>,
+) -> Result<Vec<Answer>, Want>
+    requires view { view.now ≡ by_kind (keys_of whole.now) }
+    requires opened { AreOpened (setting_of system.now cycles.now whole.now) found.now opened.now }
+    requires count { length opened.now ≡ length found.now }
+    requires filled { AreFilled (setting_of system.now cycles.now whole.now) found.now table.items }
+    ensures { IfOk result (λ answers. AreAnswers (setting_of system.now cycles.now whole.now) found.now answers.items) }
+{
+    let table = filled_table(alloc, system, cycles, whole, view, found, opened, table)?;
+    let answers = taken(alloc, table)?;
+    Ok(answers)
+}
 
 /// What each context of a list comes to, in their order: its loops with what bounds each, all reasons against a bound, and where
 /// there is none the bound, in cycles.
@@ -41,7 +64,6 @@ pub fn answers_of(
     ensures { IfOk result (λ answers. AreAnswers (setting_of system.now cycles.now whole.now) found.now answers.items) }
 {
     let order = order(alloc, opened)?;
-    let table = filled_table(alloc, system, cycles, whole, view, found, opened, &order)?;
-    let answers = taken(alloc, table)?;
-    Ok(answers)
+    let table = first_table(alloc, system, cycles, whole, view, found, opened, &order)?;
+    completed(alloc, system, cycles, whole, view, found, opened, table)
 }

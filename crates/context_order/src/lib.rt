@@ -9,5 +9,8 @@ mod ordering;
 mod rounds;
 mod taking;
 
-pub use answering::answers_of;
+pub use answering::{answers_of, completed};
+pub use entries::answer_at;
+pub use known::empty_table;
 pub use opened::Opened;
+pub use ordering::order;

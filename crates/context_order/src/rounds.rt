@@ -116,11 +116,9 @@ fn pass_up(
     Ok(changed)
 }
 
-/// A table with the answer of each context of a list.
-///
-/// It is filled by passes until one fills nothing. The first follows an order of the contexts' numbers, from its end: where
-/// callees come behind their callers there, it finds all. What is found is the same whatever the order.
-pub fn filled_table(
+/// A table with the answers that are found by one pass over an order of the contexts' numbers, from its end: where callees
+/// come behind their callers there, it has all.
+pub fn first_table(
     alloc: Global,
     system: &SparcSystem,
     cycles: &Cycles,
@@ -134,13 +132,35 @@ pub fn filled_table(
     requires opened { AreOpened (setting_of system.now cycles.now whole.now) found.now opened.now }
     requires count { length opened.now ≡ length found.now }
     requires order { (n : ℕ) → has order.now n ≡ true → n < length found.now }
-    ensures filled { IfOk result (λ table. AreFilled (setting_of system.now cycles.now whole.now) found.now table.items) }
-    ensures all { IfOk result (λ table. (n : ℕ) → n < length table.items → HasAnswer table.items n) }
+    ensures { IfOk result (λ table. AreFilled (setting_of system.now cycles.now whole.now) found.now table.items) }
 {
     let mut table = empty_table(alloc, opened.len())?;
     pass_back(
         alloc, system, cycles, whole, view, found, opened, &mut table, order,
     )?;
+    Ok(table)
+}
+
+/// A table with the answer of each context of a list, from one that has some.
+///
+/// It is filled by passes until one fills nothing. What is found is the same whatever was there before.
+pub fn filled_table(
+    alloc: Global,
+    system: &SparcSystem,
+    cycles: &Cycles,
+    whole: &Facts<Key, Fact>,
+    view: &View,
+    found: &Found,
+    opened: &[Opened],
+    mut table: Vec<Option<Answer>>,
+) -> Result<Vec<Option<Answer>>, Want>
+    requires view { view.now ≡ by_kind (keys_of whole.now) }
+    requires opened { AreOpened (setting_of system.now cycles.now whole.now) found.now opened.now }
+    requires count { length opened.now ≡ length found.now }
+    requires filled { AreFilled (setting_of system.now cycles.now whole.now) found.now table.items }
+    ensures filled { IfOk result (λ table. AreFilled (setting_of system.now cycles.now whole.now) found.now table.items) }
+    ensures all { IfOk result (λ table. (n : ℕ) → n < length table.items → HasAnswer table.items n) }
+{
     for _round in 0..opened.len() + 1 {
         if !pass_up(
             alloc, system, cycles, whole, view, found, opened, &mut table,

@@ -1,6 +1,6 @@
 use Rattle.context_bounds.specs.Setting.{setting_of}
 use Rattle.context_order.proofs.Filling.{full_answers}
-use Rattle.context_order.proofs.answering.answers_of.Goals as goal
+use Rattle.context_order.proofs.answering.completed.Goals as goal
 
 pub returns : goal.returns
 returns c =
