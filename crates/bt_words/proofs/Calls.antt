@@ -4,17 +4,18 @@ use Rattle.std.specs.Prelude.{option_and_then, pos}
 use Rattle.std.specs.List.{fold}
 use Rattle.std.specs.Str.{bytes_eq}
 use Rattle.clap.specs.Lexer.{long_of, long_of_rest, short_of, short_of_rest, strip_byte}
-use Rattle.clap.specs.Faults.{check_fault, defaults_fault, level_fault, settle_fault, step_fault, walk_fault, word_fault}
+use Rattle.clap.specs.Faults.{check_fault, defaults_fault, level_fault, settle_fault, step_fault, turn_fault, walk_fault, word_fault}
 use Rattle.clap.specs.Kinds.{Kinds, or_else, value_kinds}
 use Rattle.clap.specs.Simple.{Shape}
+use Rattle.clap.specs.Words.{without_minus}
 use Rattle.clap.specs.Walk.{Held, Step, Text, Walk, after_step, arg_by_index, finished, idle, option, plain_word, settled, to_positional, value, walk_from, walked, word_met, nothing_held}
 use Rattle.clap.specs.Values.{IsSignedIn, refused_kind}
 use Rattle.clap.specs.declared.builder.value_parser.ValueParser.TheVariants as vp
 use Rattle.clap.proofs.ValueTestLemmas.{Accepts-accepts}
 use Rattle.clap.proofs.OnLiterals.{clap_on_literals}
-use Rattle.bt_words.proofs.Matches.{decode_built, files_built}
+use Rattle.bt_words.proofs.Matches.{decode_built, files_built, gen_built}
 use Rattle.bt_words.proofs.Numbers.{number_as_it_is, number_is_name, number_within}
-use Rattle.bt_words.specs.Request.{IsRequest, asked_by, bounds, graphs, lists, number_of, requested}
+use Rattle.bt_words.specs.Request.{IsRequest, asked_by, bounds, generates, graphs, lists, number_of, requested}
 use Rattle.bt_words.specs.Law.{is_name}
 
 -- what the lexer makes of a name
@@ -158,13 +159,13 @@ module _ (command image cycles assertions : Text) (is_image : is_name image ≡ 
     five_walked =
         ap (λ (v : Walk). walked (files_built command).rules [] (walked (files_built command).rules [] v (codes "--workers")) number) three_walked
         ∙ ap (λ (v : Walk). walked (files_built command).rules [] v number) four_walked
-        ∙ option_is (files_built command) four (codes "workers") number (number_is_name number within)
+        ∙ option_is (files_built command) four (codes "workers") number (number_is_name 64 number within)
 
     five_fault : walk_fault (files_built command) [] before (image ∷ cycles ∷ assertions ∷ codes "--workers" ∷ number ∷ []) ≡ []
     unfolding clap_on_literals
     five_fault =
         three_fault (codes "--workers" ∷ number ∷ []) ∙ four_fault (number ∷ [])
-        ∙ option_then (files_built command) four (codes "workers") number (number_is_name number within) []
+        ∙ option_then (files_built command) four (codes "workers") number (number_is_name 64 number within) []
 
     five_checked : after_walk (files_built command) five.held ≡ []
     unfolding clap_on_literals
@@ -192,6 +193,7 @@ module _ (image cycles assertions : Text) (is_image : is_name image ≡ true) (i
         (three_level (codes "bound") image cycles assertions is_image is_cycles is_assertions) refl;
     asks = bound_three_rows;
     workers = (omega arith, omega arith);
+    functions = tt;
   }
 
   graph_three_rows : requested (codes "graph" ∷ image ∷ cycles ∷ assertions ∷ []) ≡ Some (graphs image cycles assertions 1)
@@ -207,6 +209,7 @@ module _ (image cycles assertions : Text) (is_image : is_name image ≡ true) (i
         (three_level (codes "graph") image cycles assertions is_image is_cycles is_assertions) refl;
     asks = graph_three_rows;
     workers = (omega arith, omega arith);
+    functions = tt;
   }
 
   module _ (number : Text) (within : IsSignedIn (pos 1) (pos 64) number) where
@@ -215,7 +218,7 @@ module _ (image cycles assertions : Text) (is_image : is_name image ≡ true) (i
     bound_five_rows =
         ap (λ (v : Walk). asked_by (codes "bound") (finished (files_built (codes "bound")).rules v.held))
         (five_walked (codes "bound") image cycles assertions is_image is_cycles is_assertions number within)
-        ∙ ap (λ (t : Text). Some (bounds image cycles assertions (number_of t))) (number_as_it_is number within)
+        ∙ ap (λ (t : Text). Some (bounds image cycles assertions (number_of t))) (number_as_it_is 64 number within)
 
     pub bound_five_asked : IsRequest (codes "bound" ∷ image ∷ cycles ∷ assertions ∷ codes "--workers" ∷ number ∷ []) (bounds image cycles assertions (number_of number))
     unfolding clap_on_literals
@@ -223,7 +226,8 @@ module _ (image cycles assertions : Text) (is_image : is_name image ≡ true) (i
       faultless = both_none (level_fault (files_built (codes "bound")) [] nothing_held (image ∷ cycles ∷ assertions ∷ codes "--workers" ∷ number ∷ []) false []) _
           (five_level (codes "bound") image cycles assertions is_image is_cycles is_assertions number within) refl;
       asks = bound_five_rows;
-      workers = number_within number within;
+      workers = number_within 64 number within;
+      functions = tt;
     }
 
     graph_five_rows : requested (codes "graph" ∷ image ∷ cycles ∷ assertions ∷ codes "--workers" ∷ number ∷ []) ≡ Some (graphs image cycles assertions (number_of number))
@@ -231,7 +235,7 @@ module _ (image cycles assertions : Text) (is_image : is_name image ≡ true) (i
     graph_five_rows =
         ap (λ (v : Walk). asked_by (codes "graph") (finished (files_built (codes "graph")).rules v.held))
         (five_walked (codes "graph") image cycles assertions is_image is_cycles is_assertions number within)
-        ∙ ap (λ (t : Text). Some (graphs image cycles assertions (number_of t))) (number_as_it_is number within)
+        ∙ ap (λ (t : Text). Some (graphs image cycles assertions (number_of t))) (number_as_it_is 64 number within)
 
     pub graph_five_asked : IsRequest (codes "graph" ∷ image ∷ cycles ∷ assertions ∷ codes "--workers" ∷ number ∷ []) (graphs image cycles assertions (number_of number))
     unfolding clap_on_literals
@@ -239,7 +243,8 @@ module _ (image cycles assertions : Text) (is_image : is_name image ≡ true) (i
       faultless = both_none (level_fault (files_built (codes "graph")) [] nothing_held (image ∷ cycles ∷ assertions ∷ codes "--workers" ∷ number ∷ []) false []) _
           (five_level (codes "graph") image cycles assertions is_image is_cycles is_assertions number within) refl;
       asks = graph_five_rows;
-      workers = number_within number within;
+      workers = number_within 64 number within;
+      functions = tt;
     }
 
 -- ---- one name
@@ -266,4 +271,109 @@ module _ (image : Text) (is_image : is_name image ≡ true) where
     faultless = both_none (level_fault decode_built [] nothing_held (image ∷ []) false []) _ listed_level refl;
     asks = listed_rows;
     workers = tt;
+    functions = tt;
   }
+
+-- ---- a number of functions
+
+module _ (functions : Text) (few : IsSignedIn (pos 1) (pos 4000) functions) where
+  functions_pass : value_kinds false (vp.Signed (pos 1) (pos 4000)) functions ≡ []
+  functions_pass = ap (λ b. cond b [] (refused_kind (vp.Signed (pos 1) (pos 4000)) ∷ [])) (Accepts-accepts false (vp.Signed (pos 1) (pos 4000)) functions few)
+
+  abbrev first : Walk
+  first = put gen_built (walk_from nothing_held) functions
+
+  first_walked : walked gen_built.rules [] (walk_from nothing_held) functions ≡ first
+  first_walked = put_is gen_built (walk_from nothing_held) functions (number_is_name 4000 functions few)
+
+  first_fault : (rest : List Text) → walk_fault gen_built [] (walk_from nothing_held) (functions ∷ rest) ≡ walk_fault gen_built [] first rest
+  first_fault rest = name_then gen_built (walk_from nothing_held) functions (number_is_name 4000 functions few) rest refl
+
+  first_checked : after_walk gen_built first.held ≡ []
+  unfolding clap_on_literals
+  first_checked = both_none _ _ (both_none (value_kinds false (vp.Signed (pos 1) (pos 4000)) functions) [] functions_pass refl) refl
+
+  first_level : level_fault gen_built [] nothing_held (functions ∷ []) false [] ≡ []
+  unfolding clap_on_literals
+  first_level = both_none _ _ (first_fault []) (ap (λ (v : Walk). after_walk gen_built v.held) first_walked ∙ first_checked)
+
+  first_rows : requested (codes "gen" ∷ functions ∷ []) ≡ Some (generates (number_of functions) 1)
+  unfolding clap_on_literals
+  first_rows =
+      ap (λ (v : Walk). asked_by (codes "gen") (finished gen_built.rules v.held)) first_walked
+      ∙ ap (λ (t : Text). Some (generates (number_of t) 1)) (number_as_it_is 4000 functions few)
+
+  pub functions_asked : IsRequest (codes "gen" ∷ functions ∷ []) (generates (number_of functions) 1)
+  unfolding clap_on_literals
+  functions_asked = record {
+    faultless = both_none (level_fault gen_built [] nothing_held (functions ∷ []) false []) _ first_level refl;
+    asks = first_rows;
+    workers = (omega arith, omega arith);
+    functions = number_within 4000 functions few;
+  }
+
+  -- and of workers
+
+  abbrev second : Walk
+  second = record {
+    held = record { rows = (settled gen_built.rules first.held).rows; pending = Some (codes "workers", []); skip = 0 };
+    waiting = option (codes "workers");
+    position = 2;
+    is_trailing = false;
+    stopped = None;
+  }
+
+  second_walked : walked gen_built.rules [] first (codes "--workers") ≡ second
+  unfolding clap_on_literals
+  second_walked = refl
+
+  second_turn : turn_fault gen_built [] first (codes "--workers") ≡ []
+  unfolding clap_on_literals
+  second_turn = both_none _ _ (both_none (value_kinds false (vp.Signed (pos 1) (pos 4000)) functions) [] functions_pass refl) refl
+
+  second_fault : (rest : List Text) → walk_fault gen_built [] first (codes "--workers" ∷ rest) ≡ walk_fault gen_built [] second rest
+  unfolding walk_fault
+  second_fault rest =
+      ap₂ or_else second_turn (ap (λ (v : Walk). walk_fault gen_built [] v rest) second_walked)
+
+  module _ (number : Text) (within : IsSignedIn (pos 1) (pos 64) number) where
+    abbrev third : Walk
+    third = put_in_option gen_built second (codes "workers") number
+
+    third_walked : fold (walked gen_built.rules []) (walk_from nothing_held) (functions ∷ codes "--workers" ∷ number ∷ []) ≡ third
+    third_walked =
+        ap (λ (v : Walk). walked gen_built.rules [] (walked gen_built.rules [] v (codes "--workers")) number) first_walked
+        ∙ ap (λ (v : Walk). walked gen_built.rules [] v number) second_walked
+        ∙ option_is gen_built second (codes "workers") number (number_is_name 64 number within)
+
+    third_fault : walk_fault gen_built [] (walk_from nothing_held) (functions ∷ codes "--workers" ∷ number ∷ []) ≡ []
+    unfolding clap_on_literals
+    third_fault =
+        first_fault (codes "--workers" ∷ number ∷ []) ∙ second_fault (number ∷ [])
+        ∙ option_then gen_built second (codes "workers") number (number_is_name 64 number within) []
+
+    third_checked : after_walk gen_built third.held ≡ []
+    unfolding clap_on_literals
+    third_checked =
+        let passed : value_kinds false (vp.Signed (pos 1) (pos 64)) number ≡ [] =
+        ap (λ b. cond b [] (refused_kind (vp.Signed (pos 1) (pos 64)) ∷ [])) (Accepts-accepts false (vp.Signed (pos 1) (pos 64)) number within) in
+        both_none _ _ (both_none (value_kinds false (vp.Signed (pos 1) (pos 64)) number) [] passed refl) refl
+
+    third_level : level_fault gen_built [] nothing_held (functions ∷ codes "--workers" ∷ number ∷ []) false [] ≡ []
+    third_level = both_none _ _ third_fault (ap (λ (v : Walk). after_walk gen_built v.held) third_walked ∙ third_checked)
+
+    third_rows : requested (codes "gen" ∷ functions ∷ codes "--workers" ∷ number ∷ []) ≡ Some (generates (number_of functions) (number_of number))
+    unfolding clap_on_literals
+    third_rows =
+        ap (λ (v : Walk). asked_by (codes "gen") (finished gen_built.rules v.held)) third_walked
+        ∙ ap (λ (t : Text). Some (generates (number_of t) (number_of (without_minus number)))) (number_as_it_is 4000 functions few)
+        ∙ ap (λ (t : Text). Some (generates (number_of functions) (number_of t))) (number_as_it_is 64 number within)
+
+    pub functions_and_workers_asked : IsRequest (codes "gen" ∷ functions ∷ codes "--workers" ∷ number ∷ []) (generates (number_of functions) (number_of number))
+    unfolding clap_on_literals
+    functions_and_workers_asked = record {
+      faultless = both_none (level_fault gen_built [] nothing_held (functions ∷ codes "--workers" ∷ number ∷ []) false []) _ third_level refl;
+      asks = third_rows;
+      workers = number_within 64 number within;
+      functions = number_within 4000 functions few;
+    }

@@ -101,14 +101,17 @@ first_met first rest none faultless check =
 pub commands_come_first : CommandsComeFirst
 commands_come_first first rest e =
     go (bytes_eq (codes "bound") first) refl (bytes_eq (codes "graph") first) refl (bytes_eq (codes "decode") first) refl
+    (bytes_eq (codes "gen") first) refl
   where
     go : (b : Bool) → bytes_eq (codes "bound") first ≡ b → (g : Bool) → bytes_eq (codes "graph") first ≡ g → (d : Bool)
-        → bytes_eq (codes "decode") first ≡ d → (first ≡ codes "bound") ⊎ ((first ≡ codes "graph") ⊎ (first ≡ codes "decode"))
-    go true at g at1 d at2 = inl (sym ((bytes_eq-Decides (codes "bound") first).0 at))
-    go false at true at1 d at2 = inr (inl (sym ((bytes_eq-Decides (codes "graph") first).0 at1)))
-    go false at false at1 true at2 = inr (inr (sym ((bytes_eq-Decides (codes "decode") first).0 at2)))
-    go false at false at1 false at2 =
-        let none : subcommand_met names idle first ≡ None = rw (at, at1, at2) refl in
+        → bytes_eq (codes "decode") first ≡ d → (n : Bool) → bytes_eq (codes "gen") first ≡ n
+        → (first ≡ codes "bound") ⊎ ((first ≡ codes "graph") ⊎ ((first ≡ codes "decode") ⊎ (first ≡ codes "gen")))
+    go true at g at1 d at2 n at3 = inl (sym ((bytes_eq-Decides (codes "bound") first).0 at))
+    go false at true at1 d at2 n at3 = inr (inl (sym ((bytes_eq-Decides (codes "graph") first).0 at1)))
+    go false at false at1 true at2 n at3 = inr (inr (inl (sym ((bytes_eq-Decides (codes "decode") first).0 at2))))
+    go false at false at1 false at2 true at3 = inr (inr (inr (sym ((bytes_eq-Decides (codes "gen") first).0 at3))))
+    go false at false at1 false at2 false at3 =
+        let none : subcommand_met names idle first ≡ None = rw (at, at1, at2, at3) refl in
         let stop = (walk [] names nothing_held (first ∷ rest)).stopped in
         let level = level_fits top tt names (first ∷ rest) (is_some (entered top_built stop)) (entered_fault top_built stop) e in
         absurd (first_met first rest none (both_pass (walk_fault top names before (first ∷ rest)) _ e).0 level.2)

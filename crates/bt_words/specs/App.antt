@@ -1,5 +1,5 @@
 -- The command line of boundt, as what a parse reads of it: the command `boundt`, which has no argument of its
--- own, with its subcommands `bound`, `graph` and `decode`.
+-- own, with its subcommands `bound`, `graph`, `decode` and `gen`.
 use Rattle.std.specs.Prelude.{true, false, Some, [], ◌∷◌, codes, pos}
 use Rattle.clap.specs.Words.{App, Rule, Shape, Text, new_rule}
 use Rattle.clap.specs.Simple.{new_shape}
@@ -48,6 +48,17 @@ decode_shape = record (new_shape (codes "decode")) { rules = name_rule (codes "I
 abbrev pub decode_app : App
 decode_app = record { top = decode_shape; subs = [] }
 
+-- `N` of `gen`: a number from 1 to 4,000, which has to be there
+abbrev pub functions_rule : Rule
+functions_rule = record (new_rule (codes "N")) { required = true; parser = Some (vp.Signed (pos 1) (pos 4000)) }
+
+-- `gen N [--workers N]`
+abbrev pub gen_shape : Shape
+gen_shape = record (new_shape (codes "gen")) { rules = functions_rule ∷ workers_rule ∷ [] }
+
+abbrev pub gen_app : App
+gen_app = record { top = gen_shape; subs = [] }
+
 -- the words are those after the program's name, one subcommand has to be there, and neither help nor a version
 -- is offered
 abbrev pub boundt_shape : Shape
@@ -64,4 +75,4 @@ abbrev pub two_app : App
 two_app = record { top = boundt_shape; subs = bound_shape ∷ graph_shape ∷ [] }
 
 abbrev pub boundt_app : App
-boundt_app = record { top = boundt_shape; subs = bound_shape ∷ graph_shape ∷ decode_shape ∷ [] }
+boundt_app = record { top = boundt_shape; subs = bound_shape ∷ graph_shape ∷ decode_shape ∷ gen_shape ∷ [] }

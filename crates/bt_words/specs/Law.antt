@@ -2,7 +2,7 @@
 use Rattle.std.specs.Prelude.{◌≡◌, ◌⊎◌, ◌==◌, Bool, true, List, [], ◌∷◌, not, codes, pos}
 use Rattle.clap.specs.Words.{IsSignedIn, Text, fault_of}
 use Rattle.bt_words.specs.App.{boundt_app}
-use Rattle.bt_words.specs.Request.{Asked, IsRequest, bounds, graphs, lists, number_of}
+use Rattle.bt_words.specs.Request.{Asked, IsRequest, bounds, generates, graphs, lists, number_of}
 
 -- the words ask for something
 pub record IsAsked (words : List Text) : Type 0 where
@@ -40,7 +40,14 @@ WorkersAreAsked = (image cycles assertions number : Text)
 abbrev pub OneNameAsks : Type 0
 OneNameAsks = (image : Text) → is_name image ≡ true → IsRequest (codes "decode" ∷ image ∷ []) (lists image)
 
+-- `gen` with a number from 1 to 4,000 asks for so many functions by one worker, and with `--workers` and a number from 1 to 64 by so
+-- many
+abbrev pub FunctionsAreAsked : Type 0
+FunctionsAreAsked = (functions number : Text) → IsSignedIn (pos 1) (pos 4000) functions → IsSignedIn (pos 1) (pos 64) number
+    → IsRequest (codes "gen" ∷ functions ∷ []) (generates (number_of functions) 1)
+    × IsRequest (codes "gen" ∷ functions ∷ codes "--workers" ∷ number ∷ []) (generates (number_of functions) (number_of number))
+
 -- the first word of words without a fault is a command: there is no option before it, and no other command
 abbrev pub CommandsComeFirst : Type 0
 CommandsComeFirst = (first : Text) (rest : List Text) → fault_of boundt_app (first ∷ rest) ≡ []
-    → (first ≡ codes "bound") ⊎ ((first ≡ codes "graph") ⊎ (first ≡ codes "decode"))
+    → (first ≡ codes "bound") ⊎ ((first ≡ codes "graph") ⊎ ((first ≡ codes "decode") ⊎ (first ≡ codes "gen")))

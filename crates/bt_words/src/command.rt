@@ -2,7 +2,7 @@
 ghost use Rattle.std.specs.Prelude.{◌≡◌, IfOk, false};
 ghost use Rattle.clap.specs.Words.{app_of, rule_of};
 ghost use Rattle.clap.specs.declared.builder.Command.TheViews.{out-Command as fields_of};
-ghost use Rattle.bt_words.specs.App.{bound_app, boundt_app, decode_app, files_app, graph_app, name_rule, two_app, workers_rule};
+ghost use Rattle.bt_words.specs.App.{bound_app, boundt_app, decode_app, files_app, functions_rule, gen_app, graph_app, name_rule, two_app, workers_rule};
 
 use clap::{Arg, Command, value_parser};
 use std::alloc::{AllocError, Global};
@@ -24,6 +24,16 @@ fn workers<'a>(alloc: Global) -> Arg<'a>
         .long("workers")
         .value_parser(value_parser!(u32).range(1..=64))
         .default_value("1")
+}
+
+/// The number of functions, from 1 to 4,000, which has to be there.
+fn functions<'a>(alloc: Global) -> Arg<'a>
+    ensures rule { rule_of result ≡ functions_rule }
+    ensures local { result.global ≡ false }
+{
+    Arg::new(alloc, "N")
+        .required(true)
+        .value_parser(value_parser!(u32).range(1..=4000))
 }
 
 /// A subcommand that is given `IMAGE CYCLES ASSERTIONS [--workers N]`.
@@ -67,6 +77,17 @@ fn decode<'a>(alloc: Global) -> Result<Command<'a>, AllocError>
     Command::new(alloc, "decode").arg(image)
 }
 
+/// `gen N [--workers N]`.
+fn generate<'a>(alloc: Global) -> Result<Command<'a>, AllocError>
+    ensures app { IfOk result (λ c. app_of c ≡ gen_app) }
+    ensures local { IfOk result (λ c. (fields_of c).has_globals ≡ false) }
+{
+    let functions = functions(alloc);
+    let workers = workers(alloc);
+    let one = Command::new(alloc, "gen").arg(functions)?;
+    one.arg(workers)
+}
+
 /// The command line with its first two subcommands.
 fn with_two<'a>(alloc: Global) -> Result<Command<'a>, AllocError>
     ensures { IfOk result (λ c. app_of c ≡ two_app) }
@@ -88,5 +109,7 @@ pub(crate) fn boundt<'a>(alloc: Global) -> Result<Command<'a>, AllocError>
 {
     let two = with_two(alloc)?;
     let decode = decode(alloc)?;
-    two.subcommand(decode)
+    let three = two.subcommand(decode)?;
+    let generate = generate(alloc)?;
+    three.subcommand(generate)
 }

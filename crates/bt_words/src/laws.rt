@@ -1,5 +1,5 @@
 //! Facts about command lines: each is the contract of a function that does nothing.
-ghost use Rattle.bt_words.specs.Law.{CommandsComeFirst, FaultlessWordsAsk, OneNameAsks, ThreeNamesAsk, WorkersAreAsked};
+ghost use Rattle.bt_words.specs.Law.{CommandsComeFirst, FaultlessWordsAsk, FunctionsAreAsked, OneNameAsks, ThreeNamesAsk, WorkersAreAsked};
 
 /// Words without a fault ask for something, a bound or a graph with from 1 to 64 workers.
 pub fn faultless_words_ask()
@@ -22,7 +22,13 @@ pub fn one_name_asks()
     ensures { OneNameAsks }
 {}
 
-/// The first word of words without a fault is `bound`, `graph` or `decode`: no option stands before it.
+/// `gen` with a number from 1 to 4,000 asks for an executable of so many functions, by one worker, or by as many as
+/// `--workers` says with a number from 1 to 64.
+pub fn functions_are_asked()
+    ensures { FunctionsAreAsked }
+{}
+
+/// The first word of words without a fault is `bound`, `graph`, `decode` or `gen`: no option stands before it.
 pub fn commands_come_first()
     ensures { CommandsComeFirst }
 {}

@@ -6,6 +6,7 @@ mod laws;
 mod request;
 
 pub use laws::{
-    commands_come_first, faultless_words_ask, one_name_asks, three_names_ask, workers_are_asked,
+    commands_come_first, faultless_words_ask, functions_are_asked, one_name_asks, three_names_ask,
+    workers_are_asked,
 };
 pub use request::{NoRequest, Request, request_of};

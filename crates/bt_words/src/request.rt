@@ -2,8 +2,8 @@
 ghost use Rattle.std.specs.Prelude.{◌≡◌, ◌⊎◌, ◌↔◌, ◌≤◌, [], Some, true, codes, IfOk, IsErrOf, IsOk, option_and_then, option_map};
 ghost use Rattle.clap.specs.Words.{fault_of, first_of, found_of, one_of, rows_of, subcommand_of, subcommand_rows_of, takes};
 ghost use Rattle.bt_words.specs.App.{boundt_app};
-ghost use Rattle.bt_words.specs.Match.{HasNumber, HasText, IsFilesMatch, IsMatch, IsMatched};
-ghost use Rattle.bt_words.specs.Request.{HasWorkers, IsRefused, IsRequest, asked_by, asked_of, bounds, decode_asked, files_asked, graphs, number_of, texts};
+ghost use Rattle.bt_words.specs.Match.{HasNumber, HasText, HasWorkerNumber, IsFilesMatch, IsGenMatch, IsMatch, IsMatched};
+ghost use Rattle.bt_words.specs.Request.{HasFunctions, HasWorkers, IsRefused, IsRequest, asked_by, asked_of, bounds, decode_asked, files_asked, gen_asked, graphs, number_of, texts};
 
 use crate::command::boundt;
 use clap::ArgMatches;
@@ -31,6 +31,11 @@ pub enum Request<'a> {
     Decode {
         image: &'a str,
     },
+    /// Make an executable of so many functions, 1 to 4,000, and count and bound it, by so many workers, 1 to 64.
+    Generate {
+        functions: u32,
+        workers: u32,
+    },
 }
 
 /// Why the words ask for nothing.
@@ -52,11 +57,20 @@ fn text_of<'a>(found: &ArgMatches<'a>, id: &str) -> &'a str
 
 /// The number of workers, 1 to 64.
 fn workers_of(found: &ArgMatches<'_>) -> u32
-    requires { HasNumber (rows_of (found_of found.now)) }
+    requires { HasWorkerNumber (rows_of (found_of found.now)) }
     ensures read { option_map number_of (one_of (codes "workers") (rows_of (found_of found.now))) ≡ Some result }
     ensures within { (1 ≤ result) × (result ≤ 64) }
 {
     found.get_one::<u32>("workers").unwrap()
+}
+
+/// The number of functions, 1 to 4,000.
+fn functions_of(found: &ArgMatches<'_>) -> u32
+    requires { HasNumber (codes "N") 4000 (rows_of (found_of found.now)) }
+    ensures read { option_map number_of (one_of (codes "N") (rows_of (found_of found.now))) ≡ Some result }
+    ensures within { (1 ≤ result) × (result ≤ 4000) }
+{
+    found.get_one::<u32>("N").unwrap()
 }
 
 /// What the matches of `bound` ask for.
@@ -64,6 +78,7 @@ fn bound_of<'a>(found: &ArgMatches<'a>) -> Request<'a>
     requires { IsFilesMatch (rows_of (found_of found.now)) }
     ensures asked { files_asked bounds (rows_of (found_of found.now)) ≡ Some (asked_of result) }
     ensures workers { HasWorkers (asked_of result) }
+    ensures functions { HasFunctions (asked_of result) }
 {
     Request::Bound {
         image: text_of(found, "IMAGE"),
@@ -78,6 +93,7 @@ fn graph_of<'a>(found: &ArgMatches<'a>) -> Request<'a>
     requires { IsFilesMatch (rows_of (found_of found.now)) }
     ensures asked { files_asked graphs (rows_of (found_of found.now)) ≡ Some (asked_of result) }
     ensures workers { HasWorkers (asked_of result) }
+    ensures functions { HasFunctions (asked_of result) }
 {
     let image = text_of(found, "IMAGE");
     let cycles = text_of(found, "CYCLES");
@@ -96,9 +112,22 @@ fn decode_of<'a>(found: &ArgMatches<'a>) -> Request<'a>
     requires { HasText (codes "IMAGE") (rows_of (found_of found.now)) }
     ensures asked { decode_asked (rows_of (found_of found.now)) ≡ Some (asked_of result) }
     ensures workers { HasWorkers (asked_of result) }
+    ensures functions { HasFunctions (asked_of result) }
 {
     let image = text_of(found, "IMAGE");
     Request::Decode { image }
+}
+
+/// What the matches of `gen` ask for.
+fn gen_of<'a>(found: &ArgMatches<'a>) -> Request<'a>
+    requires { IsGenMatch (rows_of (found_of found.now)) }
+    ensures asked { gen_asked (rows_of (found_of found.now)) ≡ Some (asked_of result) }
+    ensures workers { HasWorkers (asked_of result) }
+    ensures functions { HasFunctions (asked_of result) }
+{
+    let functions = functions_of(found);
+    let workers = workers_of(found);
+    Request::Generate { functions, workers }
 }
 
 /// What the matches of the subcommand of this name ask for.
@@ -106,11 +135,13 @@ fn asked<'a>(name: &str, found: &ArgMatches<'a>) -> Request<'a>
     requires { IsMatch name.now (rows_of (found_of found.now)) }
     ensures asked { asked_by name.now (rows_of (found_of found.now)) ≡ Some (asked_of result) }
     ensures workers { HasWorkers (asked_of result) }
+    ensures functions { HasFunctions (asked_of result) }
 {
     match name {
         "bound" => bound_of(found),
         "graph" => graph_of(found),
-        _ => decode_of(found),
+        "decode" => decode_of(found),
+        _ => gen_of(found),
     }
 }
 
@@ -119,6 +150,7 @@ fn request_in<'a>(matches: &ArgMatches<'a>) -> Request<'a>
     requires { IsMatched (subcommand_rows_of matches.now) }
     ensures asked { option_and_then (λ p. asked_by p.0 p.1) (subcommand_rows_of matches.now) ≡ Some (asked_of result) }
     ensures workers { HasWorkers (asked_of result) }
+    ensures functions { HasFunctions (asked_of result) }
 {
     let (name, found) = matches.subcommand().unwrap();
     asked(name, found)
@@ -152,10 +184,11 @@ fn matches_of<'a>(alloc: Global, words: &'a [String]) -> Result<ArgMatches<'a>, 
 
 /// What the words of a call ask for. They are those after the program's name.
 ///
-/// They are `bound IMAGE CYCLES ASSERTIONS [--workers N]`, the same with `graph`, or `decode IMAGE`. The option stands
-/// anywhere behind `bound` or `graph`, at most once, as `--workers N` or as `--workers=N`. After `--` there are no options, so a name that
-/// begins with a hyphen, and is longer, stands there. Usage comes only for words that `clap` refuses for another
-/// cause than memory; Want for want of memory alone.
+/// They are `bound IMAGE CYCLES ASSERTIONS [--workers N]`, the same with `graph`, `decode IMAGE`, or `gen N
+/// [--workers N]`, where the first N is from 1 to 4,000. The option stands anywhere behind `bound`, `graph` or `gen`, at
+/// most once, as `--workers N` or as `--workers=N`. After `--` there are no options, so a name that begins with a
+/// hyphen, and is longer, stands there. Usage comes only for words that `clap` refuses for another cause than memory;
+/// Want for want of memory alone.
 pub fn request_of<'a>(alloc: Global, words: &'a [String]) -> Result<Request<'a>, NoRequest>
     // The words are without a fault, and ask for this.
     ensures ok { IfOk result (λ r. IsRequest (texts words.now) (asked_of r)) }

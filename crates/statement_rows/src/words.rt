@@ -4,7 +4,7 @@ use std::alloc::{AllocError, Global};
 use std::test::Fail;
 
 /// Words that are refused.
-const REFUSED: [&str; 52] = [
+const REFUSED: [&str; 72] = [
     "",
     "bound",
     "bound i",
@@ -57,6 +57,26 @@ const REFUSED: [&str; 52] = [
     "decode --workers 1 i",
     "decode i --workers=1",
     "decode -h",
+    "gen",
+    "gen 0",
+    "gen 4001",
+    "gen -1",
+    "gen=4",
+    "gen x",
+    "gen 4x",
+    "gen ''",
+    "gen 18446744073709551617",
+    "gen 3 4",
+    "gen -- -1",
+    "gen --workers 2",
+    "gen 3 --workers",
+    "gen 3 --workers 0",
+    "gen 3 --workers 65",
+    "gen 3 --workers 1 --workers 1",
+    "gen -h",
+    "--workers 1 gen 3",
+    "generate 3",
+    "ge 3",
 ];
 
 /// Words that ask for a bound, and what they ask for. A number may have a sign + and leading zeros.
@@ -93,6 +113,19 @@ const LISTED: [(&str, &str); 4] = [
     ("decode -- -i", "-i"),
     ("decode ''", ""),
     ("decode help", "help"),
+];
+
+/// Words that ask for an executable that is made: how many functions it has, and the workers.
+const GENERATED: [(&str, u32, u32); 9] = [
+    ("gen 1", 1, 1),
+    ("gen 4000", 4000, 1),
+    ("gen +4", 4, 1),
+    ("gen 0040", 40, 1),
+    ("gen -- 4", 4, 1),
+    ("gen --workers 2 4", 4, 2),
+    ("gen 4 --workers 64", 4, 64),
+    ("gen 4 --workers=+08", 4, 8),
+    ("gen --workers=3 -- 4", 4, 3),
 ];
 
 /// The words of a call, parted by blanks; `''` stands for the empty word.
@@ -132,6 +165,18 @@ fn requests_for_bounds(rt: HostRuntime) -> Result<(), Fail> {
             image,
             cycles,
             assertions,
+            workers: *workers,
+        };
+        assert!(rt; asks_for(rt.alloc(), text, want)?, "at {text}");
+    }
+    Ok(())
+}
+
+#[test]
+fn requests_for_executables(rt: HostRuntime) -> Result<(), Fail> {
+    for (text, functions, workers) in &GENERATED {
+        let want = Request::Generate {
+            functions: *functions,
             workers: *workers,
         };
         assert!(rt; asks_for(rt.alloc(), text, want)?, "at {text}");

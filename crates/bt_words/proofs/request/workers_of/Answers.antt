@@ -1,4 +1,4 @@
-use Rattle.std.proofs.Common.{◌≡◌, ◌∙◌, ◌≤◌, ℕ, Some, codes, is_some, option_map, sym, ap, subst}
+use Rattle.std.proofs.Common.{◌≡◌, ◌∙◌, ◌≤◌, ℕ, Some, codes, is_some, option_map, sym, ap, subst, arith}
 use Rattle.std.specs.Str.Parse.{ParsesUnsigned, ExplainsUnsignedError, HasUnsignedDigitsIfOk}
 use Rattle.clap.specs.Words.{found_of, one_of, rows_of}
 use Rattle.clap.proofs.WalkLemmas.{one_text-rows}
@@ -12,7 +12,7 @@ number : (c : goal.After-get_one) → (n : ℕ) × (c.get_one.result ≡ Some n)
     × (option_map number_of (one_of (codes "workers") (rows_of (found_of c.args.found.now))) ≡ Some n) × (1 ≤ n) × (n ≤ 64)
 number c =
     number_read _ (λ bs r. ParsesUnsigned 32 10 bs r × ExplainsUnsignedError 10 bs r × HasUnsignedDigitsIfOk bs r)
-    (rows_of (found_of c.args.found.now)) c.get_one.result c.requires (λ u x g. g.0)
+    (codes "workers") 64 (omega arith) (rows_of (found_of c.args.found.now)) c.get_one.result c.requires (λ u x g. g.0)
     (λ t e. c.get_one.ensures.value t (one_text-rows (found_of c.args.found.now) (codes "workers") ∙ e))
 
 pub unwrap-requires : goal.unwrap-requires
