@@ -10,6 +10,8 @@ mod decode;
 #[cfg(test)]
 mod executables;
 #[cfg(test)]
+mod generated;
+#[cfg(test)]
 mod graph;
 #[cfg(test)]
 mod versions;

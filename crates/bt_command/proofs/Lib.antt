@@ -1,7 +1,9 @@
 pub mod Asks
 pub mod Bounds
+pub mod Generates
 pub mod Graphs
 pub mod Listings
+pub mod Ones
 pub mod Refusals
 pub mod Says
 pub mod Shown

@@ -2,7 +2,7 @@
 -- once the one before is accepted, and no other.
 use Rattle.std.specs.Prelude.{◌≡◌, ◌⊎◌, List, ℕ}
 use Rattle.bt_base.specs.Ask.{Ask, IsReading}
-use Rattle.bt_words.specs.Request.{Asked, bounds, graphs, lists, IsRequest}
+use Rattle.bt_words.specs.Request.{Asked, bounds, generates, graphs, lists, IsRequest}
 use Rattle.bt_command.specs.Files.{Names}
 use Rattle.bt_command.specs.Call.{Call, Reading, longest_image, longest_table, longest_assertions, AcceptsImage, AcceptsCosts}
 
@@ -16,15 +16,16 @@ pub data ReadsInOrder (names : Names) (read : Reading) : Type 0 where
       → IsReading names.cycles longest_table between behind → AcceptsCosts (read.told names.cycles)
       → IsReading names.assertions longest_assertions behind read.asked_after → ReadsInOrder names read
 
--- what a command asks of the shelf
+-- nothing is asked of the shelf
+abbrev pub AsksNothing : Call → Type 0
+AsksNothing call = call.read.asked_after ≡ call.read.asked
+
+-- what a command asks of the shelf; one whose image is made asks for nothing
 abbrev pub AsksFor : Asked → Call → Type 0
 AsksFor (bounds image cycles assertions workers) call = ReadsInOrder (record { image = image; cycles = cycles; assertions = assertions }) call.read
 AsksFor (graphs image cycles assertions workers) call = ReadsInOrder (record { image = image; cycles = cycles; assertions = assertions }) call.read
 AsksFor (lists image) call = IsReading image longest_image call.read.asked call.read.asked_after
-
--- nothing is asked of the shelf
-abbrev pub AsksNothing : Call → Type 0
-AsksNothing call = call.read.asked_after ≡ call.read.asked
+AsksFor (generates functions workers) call = AsksNothing call
 
 -- a call asks for the files that its words name, or, where they name none or memory is wanting, for nothing
 abbrev pub AsksInOrder : List (List ℕ) → Call → Type 0

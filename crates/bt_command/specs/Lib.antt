@@ -4,6 +4,7 @@ pub mod Bound
 pub mod Call
 pub mod Decode
 pub mod Files
+pub mod Generated
 pub mod Graph
 pub mod Order
 pub mod Program

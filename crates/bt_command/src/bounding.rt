@@ -1,5 +1,6 @@
 //! Whether each root of an analysis has a bound.
 ghost use Rattle.std.specs.Prelude.{◌≡◌};
+ghost use Rattle.bt_command.specs.Generated.{first_bound as first_bound_so};
 ghost use Rattle.bt_command.specs.Program.{all_bounded as all_bounded_so, have_bounds as have_bounds_so};
 ghost use Rattle.wcet_report.specs.Context.{are_any as are_any_so, is_open as is_open_so};
 ghost use Rattle.wcet_report.specs.Report.{root_bound as root_bound_so};
@@ -69,4 +70,14 @@ pub fn all_bounded(outcomes: &Outcomes) -> bool
     ensures { result ≡ all_bounded_so outcomes.now }
 {
     have_bounds(outcomes.list.as_slice(), outcomes.roots.as_slice())
+}
+
+/// The bound of the first root, where it has one.
+pub fn first_bound(outcomes: &Outcomes) -> Option<u64>
+    ensures { result ≡ first_bound_so outcomes.now }
+{
+    match outcomes.roots.as_slice().first() {
+        Some(root) => root_bound(outcomes.list.as_slice(), *root),
+        None => None,
+    }
 }

@@ -2,6 +2,8 @@
 #![tactic(auto)]
 
 mod bounding;
+mod counting;
+mod generating;
 mod graphing;
 mod inputs;
 mod messages;

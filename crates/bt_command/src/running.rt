@@ -10,6 +10,7 @@ ghost use Rattle.bt_command.specs.Call.{call_of, reading_of, longest_image};
 ghost use Rattle.bt_command.specs.Decode.{DecodeSays};
 ghost use Rattle.bt_command.specs.Graph.{GraphSays, GraphShows};
 
+use crate::generating::generate;
 use crate::graphing::graph_of;
 use crate::inputs::{IMAGE_LIMIT, NoFile, image_from};
 use crate::program::problem_from;
@@ -125,13 +126,14 @@ pub fn decode<F: Shelf, K: Sink>(alloc: Global, image: &str, shelf: &mut F, out:
 
 /// Runs the command that the words ask for, reads its files from the shelf, and writes its text to the sink.
 ///
-/// The words are those after the program's name: `bound IMAGE CYCLES ASSERTIONS [--workers N]`, the same with `graph`, or
-/// `decode IMAGE`. `bound` writes the report, `graph` the due graph, `decode` the listing. One worker works whatever N
-/// is. The status is Bounded where the whole text is written, but Unbounded where it is a report in which some root has
-/// no bound. What is refused is refused in this order: the words, the image, the table of cycles, the assertions as a
-/// text and then as bound to the image, more program points than 131,072, an asserted loop that no loop matches, more
-/// contexts than 4,096. Of a file a failed read comes first, then its length, then its bytes. Nothing is written before
-/// the whole text stands.
+/// The words are those after the program's name: `bound IMAGE CYCLES ASSERTIONS [--workers N]`, the same with `graph`,
+/// `decode IMAGE`, or `gen N [--workers M]`. `bound` writes the report, `graph` the due graph, `decode` the listing, `gen`
+/// one line of an executable of so many functions that it makes. One worker works whatever the number of workers is. The
+/// status is Bounded where the whole text is written, but Unbounded where it is a report in which some root has no bound.
+/// What is refused is refused in this order: the words, the image, the table of cycles, the assertions as a text and then
+/// as bound to the image, more program points than 131,072, an asserted loop that no loop matches, more contexts than
+/// 4,096. Of a file a failed read comes first, then its length, then its bytes. Nothing is written before the whole text
+/// stands.
 pub fn run_alone<F: Shelf, K: Sink>(
     alloc: Global,
     words: &[String],
@@ -173,6 +175,7 @@ pub fn run_alone<F: Shelf, K: Sink>(
             },
         ) => graph(alloc, image, cycles, assertions, shelf, out),
         Ok(Request::Decode { image }) => decode(alloc, image, shelf, out),
+        Ok(Request::Generate { functions, .. }) => generate(alloc, functions, out),
         Err(NoRequest::Usage) => Status::Usage,
         Err(NoRequest::Want) => Status::Want,
     }

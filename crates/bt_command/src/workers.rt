@@ -21,6 +21,7 @@ pub fn wanted(alloc: Global, words: &[String]) -> Result<u32, Status>
         Ok(Request::Bound { workers, .. }) => Ok(workers),
         Ok(Request::Graph { workers, .. }) => Ok(workers),
         Ok(Request::Decode { .. }) => Ok(1),
+        Ok(Request::Generate { workers, .. }) => Ok(workers),
         Err(NoRequest::Usage) => Err(Status::Usage),
         Err(NoRequest::Want) => Err(Status::Want),
     }

@@ -14,6 +14,7 @@ ghost use Rattle.bt_command.specs.declared.status.Status.{Status};
 
 use crate::Status;
 use crate::bounding::all_bounded;
+use crate::generating::generate_by;
 use crate::program::problem_from;
 use crate::refusal::status_of;
 use crate::reporting::Report;
@@ -211,6 +212,7 @@ pub fn run<R: Threads + Wait + Sync, F: Shelf, K: Sink, G: Gate + Sync>(
             rt, alloc, workers, image, cycles, assertions, shelf, out, gate,
         ),
         Ok(Request::Decode { image }) => decode(alloc, image, shelf, out),
+        Ok(Request::Generate { functions, workers }) => generate_by(rt, alloc, workers, functions, out, gate),
         Err(NoRequest::Usage) => Status::Usage,
         Err(NoRequest::Want) => Status::Want,
     }

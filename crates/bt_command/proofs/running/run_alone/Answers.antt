@@ -2,7 +2,9 @@ use Rattle.std.proofs.Common.{rules, subst, inl, inr, refl}
 use Rattle.bt_words.specs.Request.{IsRequest, asked_of, texts}
 use Rattle.bt_words.specs.declared.request.Request.{Request}
 use Rattle.bt_command.specs.Answer.{refused, wanting, answered}
+use Rattle.bt_command.specs.Call.{reading_of}
 use Rattle.bt_command.proofs.Bounds.{bound_exact, bound_whole}
+use Rattle.bt_command.proofs.Generates.{gen_exact, gen_shown, gen_whole}
 use Rattle.bt_command.proofs.Graphs.{graph_exact, graph_whole}
 use Rattle.bt_command.proofs.Listings.{decode_exact, decode_whole}
 use Rattle.bt_command.proofs.running.run_alone.Goals as goal
@@ -33,6 +35,33 @@ returns-in-Ok-Decode-clause-answers g c =
 pub returns-in-Ok-Decode-clause-asks : goal.returns-in-Ok-Decode-clause-asks
 returns-in-Ok-Decode-clause-asks g c =
     inr (_, (subst (λ (r : Request). IsRequest (texts c.args.words.now) (asked_of r)) c.in-Ok-Decode.field-0-is c.in-Ok-Decode.ensures.ok, c.decode.ensures.asks))
+
+pub generate-requires-clause-some : goal.generate-requires-clause-some
+generate-requires-clause-some g c =
+    let request = subst (λ (r : Request). IsRequest (texts c.args.words.now) (asked_of r)) c.in-Ok-Generate.field-0-is c.in-Ok-Generate.ensures.ok in
+    request.functions.0
+
+pub generate-requires-clause-few : goal.generate-requires-clause-few
+generate-requires-clause-few g c =
+    let request = subst (λ (r : Request). IsRequest (texts c.args.words.now) (asked_of r)) c.in-Ok-Generate.field-0-is c.in-Ok-Generate.ensures.ok in
+    request.functions.1
+
+pub returns-in-Ok-Generate-clause-answers : goal.returns-in-Ok-Generate-clause-answers
+returns-in-Ok-Generate-clause-answers g c =
+    let says = c.generate.ensures.says (reading_of g.F.Shelf.told g.F.Shelf.faults g.F.Shelf.asked c.args.shelf.now c.args.shelf.now) in
+    answered _ (subst (λ (r : Request). IsRequest (texts c.args.words.now) (asked_of r)) c.in-Ok-Generate.field-0-is c.in-Ok-Generate.ensures.ok)
+    says (gen_whole _ _ _ says) (gen_exact _ _ _ says)
+
+pub returns-in-Ok-Generate-clause-runs : goal.returns-in-Ok-Generate-clause-runs
+returns-in-Ok-Generate-clause-runs g c =
+    gen_shown _ _ _ _ _ (subst (λ (r : Request). IsRequest (texts c.args.words.now) (asked_of r)) c.in-Ok-Generate.field-0-is c.in-Ok-Generate.ensures.ok)
+    (c.generate.ensures.says _)
+
+pub returns-in-Ok-Generate-clause-asks : goal.returns-in-Ok-Generate-clause-asks
+returns-in-Ok-Generate-clause-asks g c = inl refl
+
+pub returns-in-Ok-Generate-clause-writes : goal.returns-in-Ok-Generate-clause-writes
+returns-in-Ok-Generate-clause-writes g c = c.generate.ensures.writes _
 
 pub returns-in-Err-Usage-clause-answers : goal.returns-in-Err-Usage-clause-answers
 returns-in-Err-Usage-clause-answers g c = let usage = c.in-Err-Usage.ensures.usage in refused (usage (search rules)) (search rules)

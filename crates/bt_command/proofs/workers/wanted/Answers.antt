@@ -25,6 +25,13 @@ returns-in-Ok-Decode-clause-workers c = record {
   count_is = refl;
 }
 
+pub returns-in-Ok-Generate-clause-workers : goal.returns-in-Ok-Generate-clause-workers
+returns-in-Ok-Generate-clause-workers c = record {
+  asked = _;
+  request = subst (λ (r : Request). IsRequest (texts c.args.words.now) (asked_of r)) c.in-Ok-Generate.field-0-is c.in-Ok-Generate.ensures.ok;
+  count_is = refl;
+}
+
 pub returns-in-Err-Usage-clause-asked : goal.returns-in-Err-Usage-clause-asked
 returns-in-Err-Usage-clause-asked c =
     λ asked request. absurd (either_way (λ ok. cc) (λ want. cc) (c.in-Err-Usage.ensures.faultless request.faultless))
