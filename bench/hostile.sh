@@ -6,9 +6,10 @@
 #
 #     bench/hostile.sh [EXECUTABLE] [COUNT]
 #
-# EXECUTABLE: what is damaged, examples/driver.elf if none is given; beside it stands its .assert. COUNT: how many images of
-# random code are tried, 200 if not given. BOUNDT: the program; else crates/boundt/out/boundt, which is proved and built first
-# where it isn't there. LIMITS=no leaves out the files at a limit, which take some minutes.
+# EXECUTABLE: what is damaged, examples/driver.elf if none is given; beside it stands its .assert. It is cut to each length, or to
+# some 500 to 750 lengths where it has 1,000 bytes or more. COUNT: how many images of random code are tried, 200 if not given.
+# BOUNDT: the program; else crates/boundt/out/boundt, which is proved and built first where it isn't there. LIMITS=no leaves out
+# the files at a limit, which take some minutes, and LIMITS=only tries nothing else.
 set -eu
 cd "$(dirname "$0")/.."
 boundt=${BOUNDT:-crates/boundt/out/boundt}
@@ -16,9 +17,9 @@ if [ ! -x "$boundt" ]; then
     (cd crates/boundt && rt run -- decode ../../examples/set_point.elf >/dev/null)
 fi
 exec python3 - "$boundt" "${1:-examples/driver.elf}" "${2:-200}" "${LIMITS:-yes}" <<'END'
-import collections, os, random, re, resource, shutil, struct, subprocess, sys, tempfile, threading
+import collections, itertools, operator, os, random, re, resource, shutil, struct, subprocess, sys, tempfile, threading
 
-PROGRAM, IMAGE, COUNT, LIMITS = os.path.abspath(sys.argv[1]), os.path.abspath(sys.argv[2]), int(sys.argv[3]), sys.argv[4] != "no"
+PROGRAM, IMAGE, COUNT, LIMITS = os.path.abspath(sys.argv[1]), os.path.abspath(sys.argv[2]), int(sys.argv[3]), sys.argv[4]
 ASSERTIONS, TABLE = IMAGE[: -len(".elf")] + ".assert", os.path.abspath("examples/erc32.cycles")
 SECONDS, BYTES = 20, 3_400_000_000
 MESSAGE = re.compile(rb"boundt: (\d+)( [A-Za-z0-9]+)*\n")
@@ -127,12 +128,11 @@ def at_limits():
         yield "assertions", image(leaf), b"", b"root f\n".ljust(1048576 + past, b"#"), past and "9 TooLong file 3 limit 1048576"
 
 
-def main():
-    bad, work = 0, tempfile.mkdtemp()
-    data = open(IMAGE, "rb").read()
+def all_but_limits(work):
+    """Everything but the files at a limit: how many runs ended otherwise."""
+    bad, data = 0, open(IMAGE, "rb").read()
     file, root = os.path.join(work, "image"), os.path.join(work, "assertions")
     open(root, "w").write("root f\n")
-    print("| What | Runs | Statuses | Greatest seconds of the processor | Greatest MB |\n|---|---|---|---|---|")
 
     tally = Tally("each byte of headers and symbols as 0, ff, its complement")
     for place in header_bytes(data):
@@ -194,17 +194,30 @@ def main():
         for closed in ((0,), (1,), (2,), (0, 1), (1, 2), (0, 2), (0, 1, 2)):
             tally.run(command, f"{closed} closed", closed=closed)
     bad += tally.told()
+    return bad
 
-    if LIMITS:
-        tally = Tally("files at each limit and one past it", 600)
-        table, statements = os.path.join(work, "table"), os.path.join(work, "statements")
-        for what, bytes_, further, text, message in at_limits():
+
+def limits(work):
+    """The files at each limit and one past it: how many runs ended otherwise."""
+    bad, first = 0, operator.itemgetter(0)
+    file, table, statements = (os.path.join(work, name) for name in ("image", "table", "statements"))
+    for what, given in itertools.groupby(sorted(at_limits(), key=first), first):
+        tally = Tally(f"at the limit and one past it: {what}", 600)
+        for _, bytes_, further, text, message in given:
             open(file, "wb").write(bytes_)
             open(table, "wb").write(open(TABLE, "rb").read() + further)
             open(statements, "wb").write(text)
             for command in ("bound", "graph"):
                 tally.run([command, file, table, statements], f"{what}, `{command}`", message or None)
         bad += tally.told()
+    return bad
+
+
+def main():
+    work = tempfile.mkdtemp()
+    print("| What | Runs | Statuses | Greatest seconds of the processor | Greatest MB |\n|---|---|---|---|---|")
+    bad = all_but_limits(work) if LIMITS != "only" else 0
+    bad += limits(work) if LIMITS != "no" else 0
     shutil.rmtree(work)
     sys.exit(1 if bad else 0)
 
