@@ -17,7 +17,7 @@ if [ ! -x "$boundt" ]; then
     (cd crates/boundt && rt run -- decode ../../examples/set_point.elf >/dev/null)
 fi
 exec python3 - "$boundt" "${1:-examples/driver.elf}" "${2:-200}" "${LIMITS:-yes}" <<'END'
-import collections, itertools, operator, os, random, re, resource, shutil, struct, subprocess, sys, tempfile, threading
+import collections, os, random, re, resource, shutil, struct, subprocess, sys, tempfile, threading
 
 PROGRAM, IMAGE, COUNT, LIMITS = os.path.abspath(sys.argv[1]), os.path.abspath(sys.argv[2]), int(sys.argv[3]), sys.argv[4]
 ASSERTIONS, TABLE = IMAGE[: -len(".elf")] + ".assert", os.path.abspath("examples/erc32.cycles")
@@ -111,21 +111,20 @@ def called_with(count):
     return image(words + [0x81C7E008, 0x81E80000], [("g", 0), ("f", 5)])
 
 
-def at_limits():
-    """What is at a limit or past it by one: what it is, the image, what is behind the table, the assertions, and the message."""
+def at_limits(past):
+    """What is at each limit, or past it by one: what it is, the image, what is behind the table, the assertions, and the message."""
     nop, leaf = 0x01000000, [0x81C3E008, 0x01000000]
-    for past in (0, 1):
-        yield "nodes", image([nop] * (131071 + 2 * past)), b"", b"root f\n", past and "9 Nodes count 131073"
-        yield "contexts", called_with(4094 + past), b"", b"root f\n", past and "9 Contexts count 4097"
-        yield "functions", image([nop] * 20000, [("f", k) for k in range(16384 + past)]), b"", b"", past and "3 Limit what Functions count 16385"
-        yield "symbols", image(leaf, symbols=262142 + past), b"", b"root f\n", past and "3 Limit what Symbols count 262145"
-        yield "sections", image(leaf, sections=1020 + past), b"", b"root f\n", past and "3 Limit what Sections count 1025"
-        never = b"".join(b"never 0x%08x\n" % (0x02000008 + 4 * k) for k in range(4095 + past))
-        yield "statements", image(leaf + [nop] * 5000), b"", b"root f\n" + never, past and "5 Limit count 4097"
-        yield "image", image(leaf).ljust(16777216 + past, b"\0"), b"", b"root f\n", past and "9 TooLong file 1 limit 16777216"
-        size = os.path.getsize(TABLE)
-        yield "table", image(leaf), b"#" * (1048576 + past - size), b"root f\n", past and "9 TooLong file 2 limit 1048576"
-        yield "assertions", image(leaf), b"", b"root f\n".ljust(1048576 + past, b"#"), past and "9 TooLong file 3 limit 1048576"
+    yield "nodes", image([nop] * (131071 + 2 * past)), b"", b"root f\n", past and "9 Nodes count 131073"
+    yield "contexts", called_with(4094 + past), b"", b"root f\n", past and "9 Contexts count 4097"
+    yield "functions", image([nop] * 20000, [("f", k) for k in range(16384 + past)]), b"", b"", past and "3 Limit what Functions count 16385"
+    yield "symbols", image(leaf, symbols=262142 + past), b"", b"root f\n", past and "3 Limit what Symbols count 262145"
+    yield "sections", image(leaf, sections=1020 + past), b"", b"root f\n", past and "3 Limit what Sections count 1025"
+    never = b"".join(b"never 0x%08x\n" % (0x02000008 + 4 * k) for k in range(4095 + past))
+    yield "statements", image(leaf + [nop] * 5000), b"", b"root f\n" + never, past and "5 Limit count 4097"
+    yield "image", image(leaf).ljust(16777216 + past, b"\0"), b"", b"root f\n", past and "9 TooLong file 1 limit 16777216"
+    size = os.path.getsize(TABLE)
+    yield "table", image(leaf), b"#" * (1048576 + past - size), b"root f\n", past and "9 TooLong file 2 limit 1048576"
+    yield "assertions", image(leaf), b"", b"root f\n".ljust(1048576 + past, b"#"), past and "9 TooLong file 3 limit 1048576"
 
 
 def all_but_limits(work):
@@ -199,11 +198,11 @@ def all_but_limits(work):
 
 def limits(work):
     """The files at each limit and one past it: how many runs ended otherwise."""
-    bad, first = 0, operator.itemgetter(0)
+    bad = 0
     file, table, statements = (os.path.join(work, name) for name in ("image", "table", "statements"))
-    for what, given in itertools.groupby(sorted(at_limits(), key=first), first):
-        tally = Tally(f"at the limit and one past it: {what}", 600)
-        for _, bytes_, further, text, message in given:
+    for given in zip(at_limits(0), at_limits(1)):
+        tally = Tally(f"at the limit and one past it: {given[0][0]}", 600)
+        for what, bytes_, further, text, message in given:
             open(file, "wb").write(bytes_)
             open(table, "wb").write(open(TABLE, "rb").read() + further)
             open(statements, "wb").write(text)
