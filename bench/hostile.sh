@@ -6,9 +6,10 @@
 #
 #     bench/hostile.sh [EXECUTABLE] [COUNT]
 #
-# EXECUTABLE: what is damaged, examples/driver.elf if none is given; beside it stands its .assert. COUNT: how many images of
-# random code are tried, 200 if not given. BOUNDT: the program; else crates/boundt/out/boundt, which is proved and built first
-# where it isn't there. LIMITS=no leaves out the files at a limit, which take some minutes.
+# EXECUTABLE: what is damaged, examples/driver.elf if none is given; beside it stands its .assert. It is cut to each length, or to
+# some 500 to 750 lengths where it has 1,000 bytes or more. COUNT: how many images of random code are tried, 200 if not given.
+# BOUNDT: the program; else crates/boundt/out/boundt, which is proved and built first where it isn't there. LIMITS=no leaves out
+# the files at a limit, which take some minutes, and LIMITS=only tries nothing else.
 set -eu
 cd "$(dirname "$0")/.."
 boundt=${BOUNDT:-crates/boundt/out/boundt}
@@ -18,7 +19,7 @@ fi
 exec python3 - "$boundt" "${1:-examples/driver.elf}" "${2:-200}" "${LIMITS:-yes}" <<'END'
 import collections, os, random, re, resource, shutil, struct, subprocess, sys, tempfile, threading
 
-PROGRAM, IMAGE, COUNT, LIMITS = os.path.abspath(sys.argv[1]), os.path.abspath(sys.argv[2]), int(sys.argv[3]), sys.argv[4] != "no"
+PROGRAM, IMAGE, COUNT, LIMITS = os.path.abspath(sys.argv[1]), os.path.abspath(sys.argv[2]), int(sys.argv[3]), sys.argv[4]
 ASSERTIONS, TABLE = IMAGE[: -len(".elf")] + ".assert", os.path.abspath("examples/erc32.cycles")
 SECONDS, BYTES = 20, 3_400_000_000
 MESSAGE = re.compile(rb"boundt: (\d+)( [A-Za-z0-9]+)*\n")
@@ -110,29 +111,27 @@ def called_with(count):
     return image(words + [0x81C7E008, 0x81E80000], [("g", 0), ("f", 5)])
 
 
-def at_limits():
-    """What is at a limit or past it by one: what it is, the image, what is behind the table, the assertions, and the message."""
+def at_limits(past):
+    """What is at each limit, or past it by one: what it is, the image, what is behind the table, the assertions, and the message."""
     nop, leaf = 0x01000000, [0x81C3E008, 0x01000000]
-    for past in (0, 1):
-        yield "nodes", image([nop] * (131071 + 2 * past)), b"", b"root f\n", past and "9 Nodes count 131073"
-        yield "contexts", called_with(4094 + past), b"", b"root f\n", past and "9 Contexts count 4097"
-        yield "functions", image([nop] * 20000, [("f", k) for k in range(16384 + past)]), b"", b"", past and "3 Limit what Functions count 16385"
-        yield "symbols", image(leaf, symbols=262142 + past), b"", b"root f\n", past and "3 Limit what Symbols count 262145"
-        yield "sections", image(leaf, sections=1020 + past), b"", b"root f\n", past and "3 Limit what Sections count 1025"
-        never = b"".join(b"never 0x%08x\n" % (0x02000008 + 4 * k) for k in range(4095 + past))
-        yield "statements", image(leaf + [nop] * 5000), b"", b"root f\n" + never, past and "5 Limit count 4097"
-        yield "image", image(leaf).ljust(16777216 + past, b"\0"), b"", b"root f\n", past and "9 TooLong file 1 limit 16777216"
-        size = os.path.getsize(TABLE)
-        yield "table", image(leaf), b"#" * (1048576 + past - size), b"root f\n", past and "9 TooLong file 2 limit 1048576"
-        yield "assertions", image(leaf), b"", b"root f\n".ljust(1048576 + past, b"#"), past and "9 TooLong file 3 limit 1048576"
+    yield "nodes", image([nop] * (131071 + 2 * past)), b"", b"root f\n", past and "9 Nodes count 131073"
+    yield "contexts", called_with(4094 + past), b"", b"root f\n", past and "9 Contexts count 4097"
+    yield "functions", image([nop] * 20000, [("f", k) for k in range(16384 + past)]), b"", b"", past and "3 Limit what Functions count 16385"
+    yield "symbols", image(leaf, symbols=262142 + past), b"", b"root f\n", past and "3 Limit what Symbols count 262145"
+    yield "sections", image(leaf, sections=1020 + past), b"", b"root f\n", past and "3 Limit what Sections count 1025"
+    never = b"".join(b"never 0x%08x\n" % (0x02000008 + 4 * k) for k in range(4095 + past))
+    yield "statements", image(leaf + [nop] * 5000), b"", b"root f\n" + never, past and "5 Limit count 4097"
+    yield "image", image(leaf).ljust(16777216 + past, b"\0"), b"", b"root f\n", past and "9 TooLong file 1 limit 16777216"
+    size = os.path.getsize(TABLE)
+    yield "table", image(leaf), b"#" * (1048576 + past - size), b"root f\n", past and "9 TooLong file 2 limit 1048576"
+    yield "assertions", image(leaf), b"", b"root f\n".ljust(1048576 + past, b"#"), past and "9 TooLong file 3 limit 1048576"
 
 
-def main():
-    bad, work = 0, tempfile.mkdtemp()
-    data = open(IMAGE, "rb").read()
+def all_but_limits(work):
+    """Everything but the files at a limit: how many runs ended otherwise."""
+    bad, data = 0, open(IMAGE, "rb").read()
     file, root = os.path.join(work, "image"), os.path.join(work, "assertions")
     open(root, "w").write("root f\n")
-    print("| What | Runs | Statuses | Greatest seconds of the processor | Greatest MB |\n|---|---|---|---|---|")
 
     tally = Tally("each byte of headers and symbols as 0, ff, its complement")
     for place in header_bytes(data):
@@ -194,17 +193,30 @@ def main():
         for closed in ((0,), (1,), (2,), (0, 1), (1, 2), (0, 2), (0, 1, 2)):
             tally.run(command, f"{closed} closed", closed=closed)
     bad += tally.told()
+    return bad
 
-    if LIMITS:
-        tally = Tally("files at each limit and one past it", 600)
-        table, statements = os.path.join(work, "table"), os.path.join(work, "statements")
-        for what, bytes_, further, text, message in at_limits():
+
+def limits(work):
+    """The files at each limit and one past it: how many runs ended otherwise."""
+    bad = 0
+    file, table, statements = (os.path.join(work, name) for name in ("image", "table", "statements"))
+    for given in zip(at_limits(0), at_limits(1)):
+        tally = Tally(f"at the limit and one past it: {given[0][0]}", 600)
+        for what, bytes_, further, text, message in given:
             open(file, "wb").write(bytes_)
             open(table, "wb").write(open(TABLE, "rb").read() + further)
             open(statements, "wb").write(text)
             for command in ("bound", "graph"):
                 tally.run([command, file, table, statements], f"{what}, `{command}`", message or None)
         bad += tally.told()
+    return bad
+
+
+def main():
+    work = tempfile.mkdtemp()
+    print("| What | Runs | Statuses | Greatest seconds of the processor | Greatest MB |\n|---|---|---|---|---|")
+    bad = all_but_limits(work) if LIMITS != "only" else 0
+    bad += limits(work) if LIMITS != "no" else 0
     shutil.rmtree(work)
     sys.exit(1 if bad else 0)
 

@@ -1,10 +1,10 @@
 #!/bin/sh
 # Refuses one call of the system in each run of the program, outside the gate: each allocation, each open, seek, read and
-# write in turn, and then lets each read and write in turn move one byte alone. It says how many runs ended with which
-# status, and the greatest time of the processor and memory of one run. It ends with status 1 where a run ended in another
-# way than it must: a refused allocation in want of memory or in the whole text, a refused open, seek or read in the fault of
-# its file, each of these with nothing written; a refused write in a fault that says how much was written, of which just that
-# stands there; and a read or write of one byte in the whole text.
+# write in turn, and then lets each read and write in turn move one byte alone; at last each allocation of a run with two
+# workers. It says how many runs ended with which status, and the greatest time of the processor and memory of one run. It ends
+# with status 1 where a run ended in another way than it must: a refused allocation in want of memory or in the whole text, a
+# refused open, seek or read in the fault of its file, each of these with nothing written; a refused write in a fault that says
+# how much was written, of which just that stands there; and a read or write of one byte in the whole text.
 #
 #     bench/refuse_calls.sh [EXECUTABLE..]
 #
@@ -31,7 +31,7 @@ cat >"$work/refuse.c" <<'END_OF_C'
 
 extern void *__libc_malloc(size_t);
 extern void *__libc_realloc(void *, size_t);
-static long calls;
+static _Atomic long calls;
 
 static int is_refused(const char *kind) {
     const char *refused = getenv("REFUSED_KIND"), *at = getenv("REFUSED_AT"), *mark = getenv("REFUSED_MARK");
@@ -74,7 +74,7 @@ END_OF_C
 "${CC:-cc}" -shared -fPIC -O1 -o "$work/refuse.so" "$work/refuse.c"
 [ $# -gt 0 ] || set -- examples/sum.elf examples/switch.elf
 python3 - "$boundt" "$work" "$@" <<'END'
-import collections, os, re, resource, subprocess, sys
+import collections, os, re, resource, subprocess, sys, threading
 
 PROGRAM, WORK, TABLE, SECONDS, BYTES = os.path.abspath(sys.argv[1]), sys.argv[2], "examples/erc32.cycles", 20, 3_400_000_000
 MARK = os.path.join(WORK, "mark")
@@ -88,7 +88,11 @@ def run(words, kind="", at=0):
     limit = lambda: resource.setrlimit(resource.RLIMIT_CPU, (SECONDS, SECONDS))
     with open(os.path.join(WORK, "out"), "w+b") as out, open(os.path.join(WORK, "err"), "w+b") as err:
         child = subprocess.Popen([PROGRAM, *words], stdin=subprocess.DEVNULL, stdout=out, stderr=err, env=given, preexec_fn=limit)
+        # A run that waits for ever is ended too; other programs may want the processor, so it has much longer.
+        timer = threading.Timer(20 * SECONDS, child.kill)
+        timer.start()
         _, status, used = os.wait4(child.pid, 0)
+        timer.cancel()
         out.seek(0)
         err.seek(0)
         code = os.waitstatus_to_exitcode(status)
@@ -108,8 +112,8 @@ def is_right(kind, plain, code, text, said):
     return code == 6 and text == b"" and re.fullmatch(r"boundt: 6 ReadFault file [123]\n", said) is not None
 
 
-def sweep(kind, commands):
-    """Refuses the calls of one kind in turn, in each of the commands, and says what was seen."""
+def sweep(kind, commands, name):
+    """Refuses the calls of one kind in turn, in each of the commands, and says by this name what was seen."""
     statuses, runs, seconds, most, bad = collections.Counter(), 0, 0.0, 0, []
     for words in commands:
         _, code, text, said, _, _ = run(words)
@@ -124,20 +128,22 @@ def sweep(kind, commands):
                 bad.append(f"{' '.join(words)}: {kind} {at}: status {code}, {said[:80]!r}")
             at += 1
     seen = ", ".join(f"{code}: {n}" for code, n in sorted(statuses.items()))
-    print(f"| {kind} | {runs} | {seen} | {seconds:.2f} | {most / 1e6:.0f} |", flush=True)
+    print(f"| {name} | {runs} | {seen} | {seconds:.2f} | {most / 1e6:.0f} |", flush=True)
     for line in bad[:5]:
         print(f"  BAD: {line}", flush=True)
     return len(bad)
 
 
 def main():
-    commands = []
+    commands, shared = [], []
     for image in sys.argv[3:]:
         files = [image, TABLE, image[: -len(".elf")] + ".assert"]
         commands += [["bound", *files], ["graph", *files], ["decode", image]]
+        shared += [["bound", *files, "--workers", "2"]]
     print("| Refused | Runs | Statuses | Greatest seconds of the processor | Greatest MB |\n|---|---|---|---|---|")
     kinds = ("alloc", "open", "seek", "read", "short read", "write", "short write")
-    sys.exit(1 if sum(sweep(kind, commands) for kind in kinds) else 0)
+    bad = sum(sweep(kind, commands, kind) for kind in kinds)
+    sys.exit(1 if bad + sweep("alloc", shared, "alloc, 2 workers") else 0)
 
 
 main()

@@ -29,34 +29,94 @@ fn check(
     Ok(())
 }
 
-/// A straight function.
+/// The bound of a function whose context is plain and which has no loop, and its report.
+const LOOPLESS: [(u64, &str); 4] = [
+    // A leaf that only returns.
+    (
+        2,
+        "root 02000000 f bounded 2\n\
+        context 02000000 f plain bounded 2\n",
+    ),
+    // A branch that passes over its delay instruction where it is untaken.
+    (
+        7,
+        "root 02000000 f bounded 7\n\
+        context 02000000 f plain bounded 7\n",
+    ),
+    // A jump through a table of addresses.
+    (
+        10,
+        "root 02000000 f bounded 10\n\
+        context 02000000 f plain bounded 10\n",
+    ),
+    // Straight code of as many words as there may be.
+    (
+        131071,
+        "root 02000000 f bounded 131071\n\
+        context 02000000 f plain bounded 131071\n",
+    ),
+];
+
+/// Functions without a loop.
 #[test]
-fn straight(rt: HostRuntime) -> Result<(), Fail> {
-    let mut list = Vec::new(rt.alloc());
-    list.push(plain(rt.alloc(), 0x02000000, 2)?)?;
-    let want = "root 02000000 f bounded 2\ncontext 02000000 f plain bounded 2\n";
-    check(&rt, &[(0x02000000, b"f")], &[0x02000000], list, want)
+fn loopless(rt: HostRuntime) -> Result<(), Fail> {
+    for (bound, want) in &LOOPLESS {
+        let mut list = Vec::new(rt.alloc());
+        list.push(plain(rt.alloc(), 0x02000000, *bound)?)?;
+        check(&rt, &[(0x02000000, b"f")], &[0x02000000], list, want)?;
+    }
+    Ok(())
 }
+
+/// A loop of a function whose context is plain: its head, its step, where its counter begins and ends and how often it is
+/// passed, the bound of the function, and the report.
+const COUNTERS: [(u32, i64, (i32, i32), u64, u64, &str); 3] = [
+    // Over words from the last to the first.
+    (
+        0x02000008,
+        -4,
+        (4, 40),
+        10,
+        44,
+        "root 02000000 f bounded 44\n\
+        context 02000000 f plain bounded 44\n\
+        loop 02000008/0 at most 10 by %o1 step -4 from 4 to 40\n",
+    ),
+    // With the test at its top, and the addition in the delay slot.
+    (
+        0x02000004,
+        1,
+        (0, 10),
+        11,
+        36,
+        "root 02000000 f bounded 36\n\
+        context 02000000 f plain bounded 36\n\
+        loop 02000004/0 at most 11 by %o1 step 1 from 0 to 10\n",
+    ),
+    // Through more words than a set has.
+    (
+        0x02000004,
+        1,
+        (0, 999),
+        1000,
+        4003,
+        "root 02000000 f bounded 4003\n\
+        context 02000000 f plain bounded 4003\n\
+        loop 02000004/0 at most 1000 by %o1 step 1 from 0 to 999\n",
+    ),
+];
 
 /// Loops whose counters fall and rise.
 #[test]
 fn counters(rt: HostRuntime) -> Result<(), Fail> {
     let f = 0x02000000;
-    let falls = [counted(at(f, 0x02000008, 0), 9, -4, 4, 40, 10)];
-    let mut list = Vec::new(rt.alloc());
-    list.push(bounded(rt.alloc(), f, Context::Plain, &falls, 44)?)?;
-    let want = "root 02000000 f bounded 44\n\
-        context 02000000 f plain bounded 44\n\
-        loop 02000008/0 at most 10 by %o1 step -4 from 4 to 40\n";
-    check(&rt, &[(0x02000000, b"f")], &[0x02000000], list, want)?;
-
-    let rises = [counted(at(f, 0x02000004, 0), 9, 1, 0, 10, 11)];
-    let mut list = Vec::new(rt.alloc());
-    list.push(bounded(rt.alloc(), f, Context::Plain, &rises, 36)?)?;
-    let want = "root 02000000 f bounded 36\n\
-        context 02000000 f plain bounded 36\n\
-        loop 02000004/0 at most 11 by %o1 step 1 from 0 to 10\n";
-    check(&rt, &[(0x02000000, b"f")], &[0x02000000], list, want)
+    for (head, step, (lo, hi), passes, bound, want) in &COUNTERS {
+        let loops = [counted(at(f, *head, 0), 9, *step, *lo, *hi, *passes)];
+        let mut list = Vec::new(rt.alloc());
+        list.push(bounded(rt.alloc(), f, Context::Plain, &loops, *bound)?)?;
+        check(&rt, &[(0x02000000, b"f")], &[f], list, want)?;
+    }
+    Ok(())
 }
 
 /// A counter behind a SAVE, round calls of a stub.
@@ -98,17 +158,32 @@ fn large(rt: HostRuntime) -> Result<(), Fail> {
     check(&rt, &functions, &[f], list, want)
 }
 
-/// An open jump; a part with two entries; calls in a cycle.
+/// Why the function at 02000000 has no bound, and its report: a jump through a table that may be written, and a jump to
+/// an address that is no code.
+const OPEN: [(Reason, &str); 2] = [
+    (
+        Reason::Jump(0x02000018),
+        "root 02000000 f unbounded\n\
+        context 02000000 f args any unbounded\n\
+        reason jump 02000018\n",
+    ),
+    (
+        Reason::Jump(0x02000004),
+        "root 02000000 f unbounded\n\
+        context 02000000 f args any unbounded\n\
+        reason jump 02000004\n",
+    ),
+];
+
+/// Open jumps; a part with two entries; calls in a cycle.
 #[test]
 fn open(rt: HostRuntime) -> Result<(), Fail> {
     let f = 0x02000000;
-    let reasons = [Reason::Jump(0x02000018)];
-    let mut list = Vec::new(rt.alloc());
-    list.push(unbounded(rt.alloc(), f, &[], &reasons)?)?;
-    let want = "root 02000000 f unbounded\n\
-        context 02000000 f args any unbounded\n\
-        reason jump 02000018\n";
-    check(&rt, &[(0x02000000, b"f")], &[f], list, want)?;
+    for (reason, want) in &OPEN {
+        let mut list = Vec::new(rt.alloc());
+        list.push(unbounded(rt.alloc(), f, &[], &[*reason])?)?;
+        check(&rt, &[(0x02000000, b"f")], &[f], list, want)?;
+    }
 
     let reasons = [Reason::Irreducible(at(f, 0x0200000c, 0), at(f, 0x02000010, 0))];
     let mut list = Vec::new(rt.alloc());
@@ -144,6 +219,43 @@ fn leaf(rt: HostRuntime) -> Result<(), Fail> {
         reason loop 02000010/1\n";
     let functions: [(u32, &'static [u8]); 2] = [(0x02000000, b"h"), (0x02000008, b"f")];
     check(&rt, &functions, &[f], list, want)
+}
+
+/// A call whose delay instruction leaves the frame: what is called is a part of the caller, and has no context of its own.
+#[test]
+fn sibling(rt: HostRuntime) -> Result<(), Fail> {
+    let mut list = Vec::new(rt.alloc());
+    list.push(plain(rt.alloc(), 0x02000000, 5)?)?;
+    let want = "root 02000000 f bounded 5\n\
+        context 02000000 f plain bounded 5\n";
+    let functions: [(u32, &'static [u8]); 2] = [(0x02000000, b"f"), (0x02000010, b"g")];
+    check(&rt, &functions, &[0x02000000], list, want)
+}
+
+/// A chain of six functions, each of which needs a window more than the next: as many as there are.
+#[test]
+fn six_windows(rt: HostRuntime) -> Result<(), Fail> {
+    let mut list = Vec::new(rt.alloc());
+    for k in 0..6u32 {
+        let sub = 0x02000064 - 0x14 * k;
+        list.push(plain(rt.alloc(), sub, 3 + 5 * u64::from(k))?)?;
+    }
+    let want = "root 02000000 f1 bounded 28\n\
+        context 02000000 f1 plain bounded 28\n\
+        context 02000014 f2 plain bounded 23\n\
+        context 02000028 f3 plain bounded 18\n\
+        context 0200003c f4 plain bounded 13\n\
+        context 02000050 f5 plain bounded 8\n\
+        context 02000064 f6 plain bounded 3\n";
+    let functions: [(u32, &'static [u8]); 6] = [
+        (0x02000000, b"f1"),
+        (0x02000014, b"f2"),
+        (0x02000028, b"f3"),
+        (0x0200003c, b"f4"),
+        (0x02000050, b"f5"),
+        (0x02000064, b"f6"),
+    ];
+    check(&rt, &functions, &[0x02000000], list, want)
 }
 
 /// A chain of seven functions, each of which needs a window more than the next.

@@ -38,13 +38,13 @@ returns-in-Ok-Decode-clause-asks g c =
 
 pub generate_by-requires-clause-some : goal.generate_by-requires-clause-some
 generate_by-requires-clause-some g c =
-    let request = subst (λ (r : Request). IsRequest (texts c.args.words.now) (asked_of r)) c.in-Ok-Generate.field-0-is c.in-Ok-Generate.ensures.ok in
-    request.functions.0
+    let between = (subst (λ (r : Request). IsRequest (texts c.args.words.now) (asked_of r)) c.in-Ok-Generate.field-0-is c.in-Ok-Generate.ensures.ok).functions in
+    let least = between.0 in search rules
 
 pub generate_by-requires-clause-few : goal.generate_by-requires-clause-few
 generate_by-requires-clause-few g c =
-    let request = subst (λ (r : Request). IsRequest (texts c.args.words.now) (asked_of r)) c.in-Ok-Generate.field-0-is c.in-Ok-Generate.ensures.ok in
-    request.functions.1
+    let between = (subst (λ (r : Request). IsRequest (texts c.args.words.now) (asked_of r)) c.in-Ok-Generate.field-0-is c.in-Ok-Generate.ensures.ok).functions in
+    let most = between.1 in search rules
 
 pub returns-in-Ok-Generate-clause-answers : goal.returns-in-Ok-Generate-clause-answers
 returns-in-Ok-Generate-clause-answers g c =
