@@ -14,6 +14,8 @@ mod devices;
 #[cfg(test)]
 mod images;
 #[cfg(test)]
+mod large;
+#[cfg(test)]
 mod limits;
 #[cfg(test)]
 mod loops;
