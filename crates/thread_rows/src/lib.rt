@@ -1,5 +1,4 @@
-//! The worked rows of the crates that threads share: the board, the parts and the pool. It alone of the crates of
-//! tests has handles.
+//! The worked rows of the crates that threads share: the board, the parts and the pool.
 #![tactic(auto)]
 
 #[cfg(test)]
