@@ -212,7 +212,9 @@ pub fn run<R: Threads + Wait + Sync, F: Shelf, K: Sink, G: Gate + Sync>(
             rt, alloc, workers, image, cycles, assertions, shelf, out, gate,
         ),
         Ok(Request::Decode { image }) => decode(alloc, image, shelf, out),
-        Ok(Request::Generate { functions, workers }) => generate_by(rt, alloc, workers, functions, out, gate),
+        Ok(Request::Generate { functions, workers }) => generate_by(
+            rt, alloc, workers, functions, out, gate,
+        ),
         Err(NoRequest::Usage) => Status::Usage,
         Err(NoRequest::Want) => Status::Want,
     }
