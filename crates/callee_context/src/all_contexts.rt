@@ -1,13 +1,11 @@
 //! The contexts of a program, and what each comes to.
-ghost use Rattle.std.specs.Prelude.{◌≡◌, ◌≤◌, IfErr, IfOk, MatchResult, length};
+ghost use Rattle.std.specs.Prelude.{◌≡◌, IfErr, IfOk, MatchResult};
 ghost use Rattle.std.specs.Map.{keys_of};
 ghost use Rattle.abs_state.specs.Key.{compare};
 ghost use Rattle.callee_context.specs.Answered.{AreAnswered, IsRefusal};
-ghost use Rattle.callee_context.specs.Program.{IsKnown, setting_in};
-ghost use Rattle.callee_context.specs.Worklist.{IsOverfull};
+ghost use Rattle.callee_context.specs.Worklist.{AreAll, IsOverfull};
 ghost use Rattle.context_bounds.specs.Setting.{setting_of};
-ghost use Rattle.context_outcomes.specs.Outcomes.{AreOutcomes};
-ghost use Rattle.context_outcomes.specs.Refusals.{most_contexts};
+ghost use Rattle.context_outcomes.specs.Refusals.{AreMatched};
 ghost use Rattle.flow_system.specs.Facts.{fact_at};
 ghost use Rattle.flow_system.specs.State.{IsDueGraph};
 ghost use Rattle.graph_view.specs.View.{AreViewed, by_kind};
@@ -16,10 +14,11 @@ ghost use Rattle.transfer_fns.specs.Setting.{rules_over};
 use crate::ContextRefusal;
 use crate::collecting::needed;
 use crate::program::Program;
-use crate::telling::{outcomes_of, roots_of};
+use crate::telling::outcomes_by;
 use abs_state::Key;
 use context_bounds::own_rows;
-use context_order::answers_of;
+use context_list::Found;
+use context_order::{Opened, answers_of};
 use cycle_table::Cycles;
 use flow_system::Facts;
 use graph_view::View;
@@ -28,46 +27,20 @@ use plain_bounds::plain_bounds;
 use std::alloc::Global;
 use transfer_fns::SparcSystem;
 use transfer_rules::Fact;
-use wcet_report::{OutcomeList, Outcomes};
+use wcet_report::Outcomes;
 
-/// What each context comes to that is needed for the roots.
-fn told(alloc: Global, program: &Program<'_>) -> Result<Outcomes, ContextRefusal>
-    requires known { IsKnown program.now }
-    ensures outcomes { IfOk result (AreOutcomes (setting_in program.now)) }
-    ensures few { IfOk result (λ outcomes. length outcomes.list ≤ most_contexts) }
-    ensures refused { IfErr result (IsOverfull (setting_in program.now)) }
-{
-    let (found, opened) = needed(alloc, program)?;
-    let answers = answers_of(
-        alloc,
-        program.system,
-        program.cycles,
-        program.facts,
-        program.view,
-        &found,
-        &opened,
-    )?;
-    let list = outcomes_of(alloc, &found, answers)?;
-    let roots = roots_of(alloc, program.system.binding())?;
-    Ok(Outcomes {
-        roots,
-        list: OutcomeList::new(list),
-    })
-}
-
-/// What each context comes to that is needed for the roots, by the due graph.
-fn all_told(
+/// All contexts that are needed for the roots by the due graph, each from within.
+fn all_needed(
     alloc: Global,
     system: &SparcSystem,
     cycles: &Cycles,
     facts: &Facts<Key, Fact>,
     view: &View,
-) -> Result<Outcomes, ContextRefusal>
+) -> Result<(Found, Vec<Opened>), ContextRefusal>
     requires due { IsDueGraph (rules_over system.now.thresholds system.now.image system.now.binding system.now.eight) (fact_at compare facts.now) }
     requires keys { AreViewed (keys_of facts.now) }
     requires view { view.now ≡ by_kind (keys_of facts.now) }
-    ensures outcomes { IfOk result (AreOutcomes (setting_of system.now cycles.now facts.now)) }
-    ensures few { IfOk result (λ outcomes. length outcomes.list ≤ most_contexts) }
+    ensures all { IfOk result (λ both. AreAll (setting_of system.now cycles.now facts.now) both.0 both.1.items) }
     ensures refused { IfErr result (IsOverfull (setting_of system.now cycles.now facts.now)) }
 {
     system.thresholds().are_thresholds();
@@ -82,7 +55,32 @@ fn all_told(
         plain: &plain,
         rows: &rows,
     };
-    told(alloc, &program)
+    needed(alloc, &program)
+}
+
+/// All contexts that are needed for the roots, in the order in which they are found, each from within: its facts, its graph,
+/// and the contexts to which its calls lead.
+///
+/// The facts are those of all runs: the due graph of the system, and the view is of their keys. Unmatched comes exactly
+/// where an asserted loop is matched by no loop, with the least line; TooMany exactly where all are matched and more than
+/// 4,096 contexts are needed.
+pub fn needed_contexts(
+    alloc: Global,
+    system: &SparcSystem,
+    cycles: &Cycles,
+    facts: &Facts<Key, Fact>,
+    view: &View,
+) -> Result<(Found, Vec<Opened>), ContextRefusal>
+    requires due { IsDueGraph (rules_over system.now.thresholds system.now.image system.now.binding system.now.eight) (fact_at compare facts.now) }
+    requires keys { AreViewed (keys_of facts.now) }
+    requires view { view.now ≡ by_kind (keys_of facts.now) }
+    ensures { MatchResult result (λ both. AreMatched (setting_of system.now cycles.now facts.now)
+        × AreAll (setting_of system.now cycles.now facts.now) both.0 both.1.items) (IsRefusal (setting_of system.now cycles.now facts.now)) }
+{
+    match unmatched(alloc, system, facts, view)? {
+        Some(line) => Err(ContextRefusal::Unmatched { line }),
+        None => all_needed(alloc, system, cycles, facts, view),
+    }
 }
 
 /// What each context comes to that is needed for the roots: its loops with what bounds them, the reasons why it has no
@@ -103,8 +101,8 @@ pub fn contexts(
     requires view { view.now ≡ by_kind (keys_of facts.now) }
     ensures { MatchResult result (AreAnswered (setting_of system.now cycles.now facts.now)) (IsRefusal (setting_of system.now cycles.now facts.now)) }
 {
-    match unmatched(alloc, system, facts, view)? {
-        Some(line) => Err(ContextRefusal::Unmatched { line }),
-        None => all_told(alloc, system, cycles, facts, view),
-    }
+    let (found, opened) = needed_contexts(alloc, system, cycles, facts, view)?;
+    let answers = answers_of(alloc, system, cycles, facts, view, &found, &opened)?;
+    let outcomes = outcomes_by(alloc, system, &found, answers)?;
+    Ok(outcomes)
 }

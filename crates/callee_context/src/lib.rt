@@ -10,6 +10,7 @@ mod program;
 mod refusal;
 mod telling;
 
-pub use all_contexts::contexts;
+pub use all_contexts::{contexts, needed_contexts};
 pub use laws::needed_are_listed;
 pub use refusal::ContextRefusal;
+pub use telling::outcomes_by;

@@ -1,15 +1,22 @@
 //! Outcomes from answers.
-ghost use Rattle.std.specs.Prelude.{◌≡◌, ◌<◌, IfOk, Some, length, slice_get};
+ghost use Rattle.std.specs.Prelude.{◌≡◌, ◌<◌, ℕ, List, IfOk, Some, length, slice_get};
 ghost use Rattle.assert_bind.specs.Binding.{roots};
+ghost use Rattle.callee_context.specs.Answered.{AreFewOutcomes};
 ghost use Rattle.callee_context.specs.Told.{AreToldOf, outcome_with};
+ghost use Rattle.callee_context.specs.Worklist.{AreAll};
+ghost use Rattle.context_bounds.specs.Setting.{setting_of};
 ghost use Rattle.context_list.specs.Numbered.{One};
+ghost use Rattle.context_order.specs.Answered.{AreAnswers};
+ghost use Rattle.context_order.specs.declared.opened.Opened.{Opened};
+ghost use Rattle.transfer_rules.specs.Fact.{Piece};
 
 use assert_bind::Binding;
 use bt_base::Want;
 use context_answers::Answer;
 use context_list::{Found, copy_context};
 use std::alloc::Global;
-use wcet_report::{Outcome, Roots};
+use transfer_fns::SparcSystem;
+use wcet_report::{Outcome, OutcomeList, Outcomes, Roots};
 
 /// What the context with a number comes to, with what it is.
 fn outcome_of(alloc: Global, found: &Found, number: usize, answer: Answer) -> Result<Outcome, Want>
@@ -28,11 +35,7 @@ fn outcome_of(alloc: Global, found: &Found, number: usize, answer: Answer) -> Re
 }
 
 /// What each context comes to, with what it is, the last first.
-pub fn outcomes_of(
-    alloc: Global,
-    found: &Found,
-    mut answers: Vec<Answer>,
-) -> Result<Vec<Outcome>, Want>
+fn outcomes_of(alloc: Global, found: &Found, mut answers: Vec<Answer>) -> Result<Vec<Outcome>, Want>
     requires { length answers.items ≡ length found.now }
     ensures { IfOk result (λ list. AreToldOf found.now answers.items list.items) }
 {
@@ -45,9 +48,30 @@ pub fn outcomes_of(
 }
 
 /// The roots, in the order of the assertions.
-pub fn roots_of(alloc: Global, binding: &Binding) -> Result<Roots, Want>
+fn roots_of(alloc: Global, binding: &Binding) -> Result<Roots, Want>
     ensures { IfOk result (λ list. list ≡ roots binding.now) }
 {
     let list = Vec::from_slice(alloc, binding.roots())?;
     Ok(Roots::new(list))
+}
+
+/// What the contexts of a list come to, by their answers, with the roots of a program. Where the list is that of all contexts
+/// that are needed, these are the outcomes of the program.
+pub fn outcomes_by(
+    alloc: Global,
+    system: &SparcSystem,
+    found: &Found,
+    answers: Vec<Answer>,
+) -> Result<Outcomes, Want>
+    requires { length answers.items ≡ length found.now }
+    ensures { (costs : List ℕ) (pieces : List Piece) (all : List Opened) → AreAll (setting_of system.now costs pieces) found.now all
+        → AreAnswers (setting_of system.now costs pieces) found.now answers.items
+        → IfOk result (AreFewOutcomes (setting_of system.now costs pieces)) }
+{
+    let list = outcomes_of(alloc, found, answers)?;
+    let roots = roots_of(alloc, system.binding())?;
+    Ok(Outcomes {
+        roots,
+        list: OutcomeList::new(list),
+    })
 }

@@ -1,20 +1,16 @@
-use Rattle.std.proofs.Common.{ℕ, Option, subst}
-use Rattle.std.specs.Prelude.{IfOk}
-use Rattle.callee_context.proofs.Refused.{answered}
+use Rattle.std.proofs.Common.{subst}
+use Rattle.std.specs.Prelude.{IfOk, MatchResult}
+use Rattle.callee_context.specs.Answered.{AreFewOutcomes, IsRefusal}
+use Rattle.callee_context.specs.Worklist.{AreAll}
 use Rattle.context_bounds.specs.Setting.{setting_of}
-use Rattle.loop_lines.specs.Answer.{IsFirstUnmatchedOrNone}
+use Rattle.context_outcomes.specs.Refusals.{AreMatched}
 use Rattle.callee_context.proofs.all_contexts.contexts.Goals as goal
 
-pub returns-in-Some : goal.returns-in-Some
-returns-in-Some c =
-    subst (λ (line : Option ℕ). IsFirstUnmatchedOrNone (setting_of c.args.system.now c.args.cycles.now c.args.facts.now) line) c.in-Some.is
-    (subst (λ r. IfOk r (IsFirstUnmatchedOrNone (setting_of c.args.system.now c.args.cycles.now c.args.facts.now))) (c.in_ok-line.was {u = tt})
-    (c.unmatched.ensures c.args.cycles.now))
-
-pub returns-in-None : goal.returns-in-None
-returns-in-None c =
-    answered (setting_of c.args.system.now c.args.cycles.now c.args.facts.now)
-    (subst (λ (line : Option ℕ). IsFirstUnmatchedOrNone (setting_of c.args.system.now c.args.cycles.now c.args.facts.now) line) c.in-None.is
-    (subst (λ r. IfOk r (IsFirstUnmatchedOrNone (setting_of c.args.system.now c.args.cycles.now c.args.facts.now))) (c.in_ok-line.was {u = tt})
-    (c.unmatched.ensures c.args.cycles.now)))
-    c.all_told.result c.all_told.ensures.outcomes c.all_told.ensures.few c.all_told.ensures.refused
+pub returns : goal.returns
+returns c =
+    let S = setting_of c.args.system.now c.args.cycles.now c.args.facts.now in
+    let all = subst (λ r. MatchResult r (λ both. AreMatched S × AreAll S both.0 both.1.items) (IsRefusal S)) (c.in_ok-found.was {u = tt}) c.needed_contexts.ensures in
+    let told =
+    subst (λ r. IfOk r (AreFewOutcomes S)) (c.in_ok-outcomes.was {u = tt})
+    (c.outcomes_by.ensures c.args.cycles.now c.args.facts.now c.in_ok-found.opened.items all.1 (c.in_ok-answers.ensures {u = tt})) in
+    record { matched = all.0; are = told.0; few = told.1 }

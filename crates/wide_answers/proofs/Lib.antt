@@ -1,0 +1,2 @@
+pub mod JoinedAnswers
+pub mod Putting

@@ -1,0 +1,5 @@
+use Rattle.wide_contexts.proofs.OneAnswer.{answers_are_one}
+use Rattle.wide_contexts.proofs.laws.answers_are_one.Goals as goal
+
+pub returns : goal.returns
+returns c = answers_are_one
