@@ -13,6 +13,7 @@ ghost use Rattle.flow_system.specs.State.{IsDueGraph};
 ghost use Rattle.graph_view.specs.View.{by_kind};
 
 use crate::judging::{due_graph, judged};
+use crate::telling::{Alone, Teller, Workers};
 use crate::{Problem, TaskRefusal};
 use flow_core::{Closed, GrowRefusal};
 use graph_view::View;
@@ -36,10 +37,11 @@ pub struct Analysis {
 }
 
 /// What a grown graph of a problem comes to: the due graph with the outcomes of its contexts, or the first cause against them.
-fn answered(
+fn answered<T: Teller>(
     alloc: Global,
     p: &Problem,
     grown: Result<Closed<SparcSystem>, GrowRefusal>,
+    teller: &T,
 ) -> Result<Analysis, TaskRefusal>
     requires due { IfOk grown (λ closed. IsDueGraph (rules_in p.now) (fact_at compare closed)) }
     requires within { IfOk grown (λ closed. counted_keys (rules_in p.now) closed ≤ 131072) }
@@ -59,7 +61,7 @@ fn answered(
         → IsErrOf result (TaskRefusal.Contexts count) → (count ≡ 4097) × AreTooManyFor image costs those count }
 {
     match due_graph(p, grown) {
-        Ok(closed) => judged(alloc, p, closed),
+        Ok(closed) => judged(alloc, p, closed, teller),
         Err(refusal) => Err(refusal),
     }
 }
@@ -86,10 +88,10 @@ pub fn analyse_alone(alloc: Global, p: &Problem) -> Result<Analysis, TaskRefusal
         → IsErrOf result (TaskRefusal.Contexts count) → (count ≡ 4097) × AreTooManyFor image costs those count }
 {
     let grown = grow_alone(alloc, p.system());
-    answered(alloc, p, grown)
+    answered(alloc, p, grown, &Alone)
 }
 
-/// Analyses a problem by workers: they grow its due graph together, and one judges it.
+/// Analyses a problem by workers: they grow its due graph together, and bound the contexts whose callees are all done at once.
 ///
 /// The answer is that of `analyse_alone`, for every number of workers, every gate and every order of their work.
 pub fn analyse<R: Threads + Wait + Sync, G: Gate + Sync>(
@@ -115,5 +117,6 @@ pub fn analyse<R: Threads + Wait + Sync, G: Gate + Sync>(
         → IsErrOf result (TaskRefusal.Contexts count) → (count ≡ 4097) × AreTooManyFor image costs those count }
 {
     let grown = grow(rt, alloc, p.system(), workers, gate);
-    answered(alloc, p, grown)
+    let teller = Workers { rt, count: workers };
+    answered(alloc, p, grown, &teller)
 }

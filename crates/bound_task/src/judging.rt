@@ -12,10 +12,11 @@ ghost use Rattle.flow_system.specs.Facts.{fact_at, KeysRise};
 ghost use Rattle.flow_system.specs.State.{IsDueGraph};
 ghost use Rattle.graph_view.specs.View.{AreViewed, by_kind};
 
+use crate::telling::Teller;
 use crate::{Analysis, Problem, TaskRefusal};
 use abs_state::Key;
 use bt_base::Want;
-use callee_context::{ContextRefusal, contexts};
+use callee_context::ContextRefusal;
 use flow_core::{Closed, GrowRefusal};
 use flow_system::Facts;
 use graph_view::View;
@@ -61,10 +62,11 @@ fn view_of(alloc: Global, facts: &Facts<Key, Fact>) -> Result<View, Want>
 }
 
 /// A due graph with what its contexts come to.
-pub fn judged(
+pub fn judged<T: Teller>(
     alloc: Global,
     p: &Problem,
     closed: Closed<SparcSystem>,
+    teller: &T,
 ) -> Result<Analysis, TaskRefusal>
     requires due { IsDueGraph (rules_in p.now) (fact_at compare closed) }
     requires viewed { AreViewed (keys_of closed) }
@@ -79,7 +81,7 @@ pub fn judged(
         Ok(view) => view,
         Err(Want) => return Err(TaskRefusal::Want),
     };
-    let told = contexts(alloc, p.system(), p.cycles(), closed.facts(), &view);
+    let told = teller.told(alloc, p.system(), p.cycles(), closed.facts(), &view);
     match told {
         Ok(outcomes) => Ok(Analysis {
             closed,

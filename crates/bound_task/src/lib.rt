@@ -7,6 +7,7 @@ mod laws;
 mod problem;
 mod refusal;
 mod returns;
+mod telling;
 mod text;
 
 pub use analysis::{Analysis, analyse, analyse_alone};

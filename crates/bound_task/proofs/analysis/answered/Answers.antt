@@ -9,14 +9,14 @@ use Rattle.bound_task.specs.declared.refusal.TaskRefusal.TheVariants.{Nodes}
 use Rattle.bound_task.proofs.analysis.answered.Goals as goal
 
 pub returns-in-Ok-clause-graph : goal.returns-in-Ok-clause-graph
-returns-in-Ok-clause-graph c =
+returns-in-Ok-clause-graph g c =
     λ image costs those p.
     let graph = graph_of_problem c.args.p.now image costs those c.in-Ok.closed p c.in-Ok.ensures.rise c.in-Ok.ensures.due c.in-Ok.ensures.within in
     if_ok c.judged.result (λ a. a.closed ≡ c.in-Ok.closed) (λ a. IsGraphOf image costs those a.closed)
     (λ a kept. subst (IsGraphOf image costs those) (sym kept) graph) c.judged.ensures.kept
 
 pub returns-in-Ok-clause-outcomes : goal.returns-in-Ok-clause-outcomes
-returns-in-Ok-clause-outcomes c =
+returns-in-Ok-clause-outcomes g c =
     λ image costs those p.
     let graph = graph_of_problem c.args.p.now image costs those c.in-Ok.closed p c.in-Ok.ensures.rise c.in-Ok.ensures.due c.in-Ok.ensures.within in
     if_ok c.judged.result (λ a. AreAnswered (setting_of c.args.p.now.system c.args.p.now.cycles c.in-Ok.closed) a.outcomes)
@@ -24,7 +24,7 @@ returns-in-Ok-clause-outcomes c =
     (λ a are. outcomes_are c.args.p.now image costs those c.in-Ok.closed p graph a.outcomes are) c.judged.ensures.outcomes
 
 pub returns-in-Ok-clause-runs : goal.returns-in-Ok-clause-runs
-returns-in-Ok-clause-runs c =
+returns-in-Ok-clause-runs g c =
     λ image costs those p.
     let graph = graph_of_problem c.args.p.now image costs those c.in-Ok.closed p c.in-Ok.ensures.rise c.in-Ok.ensures.due c.in-Ok.ensures.within in
     if_ok c.judged.result (λ a. AreAnswered (setting_of c.args.p.now.system c.args.p.now.cycles c.in-Ok.closed) a.outcomes)
@@ -32,20 +32,20 @@ returns-in-Ok-clause-runs c =
     (λ a are. runs_are c.args.p.now image costs those c.in-Ok.closed p graph a.outcomes are) c.judged.ensures.outcomes
 
 pub returns-in-Ok-clause-unmatched : goal.returns-in-Ok-clause-unmatched
-returns-in-Ok-clause-unmatched c =
+returns-in-Ok-clause-unmatched g c =
     λ image costs those line p is.
     let graph = graph_of_problem c.args.p.now image costs those c.in-Ok.closed p c.in-Ok.ensures.rise c.in-Ok.ensures.due c.in-Ok.ensures.within in
     unmatched_is c.args.p.now image costs those c.in-Ok.closed p graph line (c.judged.ensures.unmatched line is)
 
 pub returns-in-Ok-clause-contexts : goal.returns-in-Ok-clause-contexts
-returns-in-Ok-clause-contexts c =
+returns-in-Ok-clause-contexts g c =
     λ image costs those count p is.
     let graph = graph_of_problem c.args.p.now image costs those c.in-Ok.closed p c.in-Ok.ensures.rise c.in-Ok.ensures.due c.in-Ok.ensures.within in
     let many = too_many_are c.args.p.now image costs those c.in-Ok.closed p graph count (c.judged.ensures.contexts count is) in
     (many.count_is, many)
 
 pub returns-in-Err-clause-nodes : goal.returns-in-Err-clause-nodes
-returns-in-Err-clause-nodes c =
+returns-in-Err-clause-nodes g c =
     λ image costs those count p is.
     let big = c.in-Err.ensures.nodes count (err_moved c.in-Err.refusal (Nodes count) is) in
     (big.0, too_big_of_problem c.args.p.now image costs those p big.1)

@@ -6,7 +6,7 @@ use Rattle.transfer_fns.specs.Setting.{rules_over}
 use Rattle.bound_task.specs.Problem.{rules_in}
 use Rattle.bound_task.proofs.judging.judged.Goals as goal
 
-pub contexts-told-requires-clause-due : goal.contexts-told-requires-clause-due
-contexts-told-requires-clause-due c =
+pub told-requires-clause-due : goal.told-requires-clause-due
+told-requires-clause-due g c =
     subst (λ s. IsDueGraph (rules_over s.thresholds s.image s.binding s.eight) (fact_at compare c.facts-2.result.now)) (sym c.system.ensures)
     (subst (λ f. IsDueGraph (rules_in c.args.p.now) (fact_at compare f)) (sym c.facts-2.ensures) c.requires.due)
